@@ -1,0 +1,4 @@
+pub mod Forest
+pub mod Prefix
+pub mod Label
+pub mod Place
