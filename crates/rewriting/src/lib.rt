@@ -1,0 +1,1 @@
+// The rewriting of modules as a definition, with its theorems: see specs/.
