@@ -1,0 +1,4 @@
+pub mod Verdict
+pub mod Walked
+pub mod Walks
+pub mod Whole

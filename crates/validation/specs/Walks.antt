@@ -1,0 +1,287 @@
+-- One law for each way through a walker. Assumes nothing.
+use mathlib.Core.Path.{_≡_, refl, sym, ap, subst, _∙_}
+use mathlib.Core.Bool.{Bool, true, false, cond}
+use mathlib.Core.List.{List, [], _∷_, _++_, append-nil, append-assoc}
+use mathlib.Core.Logic.{_⊎_, inl, inr, ⊎-elim}
+use Prim.Native.Nat.{ℕ, _+_, _-_, _/_, _%_, _<_, _≤_}
+use native.Mathlib.Numerals.{add-one}
+use native.Mathlib.Omega.{arith}
+use lib.ListN.{length, replicate, drop, getD, drop-of-length-le, replicate-append-replicate}
+use lib.Seq.{drop-cons}
+use lib.Dec.{eqb, ltb, T, eqb→eq}
+use borrow.Author.Tests.{eqb-true, ltb-true, eq-eqb, ne-eqb}
+use Rattle.words.specs.Table.{lookup}
+use Rattle.words.specs.Word.{kindOf, payloadOf, bit0, bit1, bit2, children}
+use Rattle.grammar.specs.Limits.{maxDepth}
+use Rattle.grammar.specs.Grammar.{slot, Run, Row, row, noRow, leaf, expressions, oneExpression, statements, table, rowOf, holds, symbols, statement, ownStatement, expression, key, classUnder, classExpression, id, decorators, methodDecorators, body, element, methodParameters, functionParameters, parameterOf, parameterDecorators, code, Module, Statement, Expression, Class, Decorators, Body, Element, Parameters, Parameter, Code}
+use Rattle.grammar.specs.Scan.{Place, place, places, below, belowAt, faultAt, judge}
+use Rattle.grammar.specs.Rows.{each, each-row, implied, test-left, test-right, allowed-row, soleKind, kind-sole, total, total-below}
+use Rattle.grammar.specs.Faults.{Faultless, fault-0}
+use Rattle.validation.specs.declared.Step.{Step}
+use Rattle.validation.specs.Walked.{after, Walked, Here, Other}
+
+-- ---- walkers one behind the other
+
+module _ {s : ℕ} {ws : List ℕ} {at : ℕ} where
+  pub walked-end : (q : Place) → length ws ≤ at → Walked s ws at (q ∷ []) (record { fault = 2; next = at })
+  unfolding judge after
+  walked-end q h = record { scan = λ st. rw (drop-of-length-le) }
+
+  pub walked-fault : (q : Place) (f : ℕ) → at < length ws → f ≡ faultAt s q (getD ws at 0) → (f ≡ 0 → ⊥) → Walked s ws at (q ∷ []) (record { fault = f; next = at })
+  unfolding judge after
+  walked-fault q f h e n = record { scan = λ st. rw (drop-cons ws at 0, ← e, ne-eqb f 0 n) }
+
+  pub walked-one : (q : Place) {r : Step} → Here s ws at q → Walked s ws (at + 1) (belowAt q (getD ws at 0)) r → Walked s ws at (q ∷ []) r
+  unfolding judge
+  walked-one q h t =
+      let dc : drop at ws ≡ getD ws at 0 ∷ drop (at + 1) ws = rw add-one (drop-cons ws at 0 (h .inside)) in
+      record { scan = λ st. rw (dc, h .free) (t .scan st) }
+
+  pub walked-none : Walked s ws at [] (record { fault = 0; next = at })
+  unfolding after
+  walked-none = record { scan = λ st. refl }
+
+  pub walked-stop : (qs more : List Place) {r : Step} → Walked s ws at qs r → (r .fault ≡ 0 → ⊥) → Walked s ws at (qs ++ more) r
+  unfolding after
+  walked-stop qs more {r} t n = record { scan = λ st. rw (append-assoc qs more st, t .scan (more ++ st), ne-eqb (r .fault) 0 n) }
+
+  pub walked-then : (qs more : List Place) {a r : Step} → Walked s ws at qs a → a .fault ≡ 0 → Walked s ws (a .next) more r → Walked s ws at (qs ++ more) r
+  unfolding after
+  walked-then qs more {a} t z u = record { scan = λ st. rw (append-assoc qs more st, t .scan (more ++ st), z) (u .scan st) }
+
+  pub walked-last : {qs : List Place} {r : Step} → Walked s ws at qs r → Walked s ws at (qs ++ []) r
+  walked-last {qs} t = rw (append-nil qs) t
+
+  pub walked-as : {qs more : List Place} {r : Step} → more ≡ qs → Walked s ws at qs r → Walked s ws at more r
+  walked-as e t = rw e t
+
+  walked-clear : {qs : List Place} {a : Step} → Walked s ws at qs a → a .fault ≡ 0 → Walked s ws at qs (record { fault = 0; next = a .next })
+  unfolding after
+  walked-clear t z = record { scan = λ st. t .scan st ∙ rw z }
+
+-- n records for the place q, i of them walked
+module _ {s : ℕ} {ws : List ℕ} {at : ℕ} (q : Place) where
+  pub walked-next : (i p : ℕ) {a : Step} → Walked s ws at (replicate i q) (record { fault = 0; next = p }) → Walked s ws p (q ∷ []) a → a .fault ≡ 0
+      → Walked s ws at (replicate (i + 1) q) (record { fault = 0; next = a .next })
+  walked-next i p {a} t u z =
+      rw (← replicate-append-replicate i 1 q) (walked-clear (walked-then (replicate i q) (q ∷ []) t refl u) z)
+
+  pub walked-broken : (i n p : ℕ) {a : Step} → i < n → Walked s ws at (replicate i q) (record { fault = 0; next = p }) → Walked s ws p (q ∷ []) a → (a .fault ≡ 0 → ⊥)
+      → Walked s ws at (replicate n q) a
+  walked-broken i n p {a} h t u f =
+      let e : n ≡ i + (1 + (n - (i + 1))) = omega arith in
+      let split : replicate n q ≡ replicate i q ++ (replicate 1 q ++ replicate (n - (i + 1)) q) =
+      ap (λ (m : ℕ). replicate m q) e ∙ sym (replicate-append-replicate i (1 + (n - (i + 1))) q) ∙ ap (replicate i q ++_) (sym (replicate-append-replicate 1 (n - (i + 1)) q)) in
+      rw split (walked-then (replicate i q) (replicate 1 q ++ replicate (n - (i + 1)) q) t refl (walked-stop (q ∷ []) (replicate (n - (i + 1)) q) u f))
+
+-- ---- a word that has no fault at its place
+
+module _ {s : ℕ} {ws : List ℕ} {at : ℕ} (c x d : ℕ) (h : Here s ws at (place (slot c x) d)) where
+  here-faultless : Faultless s (place (slot c x) d) (kindOf (getD ws at 0)) (payloadOf (getD ws at 0))
+  unfolding faultAt
+  here-faultless = fault-0 s (place (slot c x) d) (kindOf (getD ws at 0)) (payloadOf (getD ws at 0)) .0 (h .free)
+
+  pub here-depth : d ≤ maxDepth
+  unfolding place
+  here-depth = here-faultless .depth
+
+  here-category : rowOf (kindOf (getD ws at 0)) .category ≡ c
+  unfolding place
+  here-category = allowed-row (slot c x) (kindOf (getD ws at 0)) (payloadOf (getD ws at 0)) (here-faultless .grammar) .0
+
+  here-rule : holds (rowOf (kindOf (getD ws at 0)) .rule) x (payloadOf (getD ws at 0)) ≡ true
+  unfolding place
+  here-rule = allowed-row (slot c x) (kindOf (getD ws at 0)) (payloadOf (getD ws at 0)) (here-faultless .grammar) .1
+
+  here-total : total (rowOf (kindOf (getD ws at 0)) .below x (payloadOf (getD ws at 0))) ≡ children (kindOf (getD ws at 0)) (payloadOf (getD ws at 0))
+  unfolding place
+  here-total = total-below (slot c x) (kindOf (getD ws at 0)) (payloadOf (getD ws at 0)) (here-faultless .grammar)
+
+-- where the category is known by a test
+module _ {s : ℕ} {ws : List ℕ} {at : ℕ} (c x d : ℕ) where
+  pub here-as : (n f : ℕ) → c ≡ n → at < length ws → f ≡ faultAt s (place (slot c x) d) (getD ws at 0) → f ≡ 0 → Here s ws at (place (slot n x) d)
+  here-as n f e i ef z = record { inside = i; free = ap (λ (m : ℕ). faultAt s (place (slot m x) d) (getD ws at 0)) (sym e) ∙ sym ef ∙ z }
+
+  pub one-walked : (n f : ℕ) {r : Step} → c ≡ n → at < length ws → f ≡ faultAt s (place (slot c x) d) (getD ws at 0) → f ≡ 0
+      → Walked s ws (at + 1) (belowAt (place (slot n x) d) (getD ws at 0)) r → Walked s ws at (place (slot c x) d ∷ []) r
+  one-walked n f e i ef z t = rw e (walked-one (place (slot n x) d) (here-as n f e i ef z) t)
+
+-- ---- tests of every row
+
+one-off : (b : Bool) (k a : ℕ) → (k ≡ a → ⊥) → T (cond (eqb k a) true b) → T b
+one-off b k a n t = subst (λ (c : Bool). T (cond c true b)) (ne-eqb k a n) t
+
+-- all children are expressions
+unfoldable onlyExpressions : List Run → Bool
+onlyExpressions [] = true
+onlyExpressions (r ∷ rs) = cond (eqb (r .slot .category) 4) (cond (eqb (r .slot .context) 0) (onlyExpressions rs) false) false
+
+-- so it is of statements but 3 and 4
+unfoldable plainStatement : ℕ → ℕ → ℕ → Row → Bool
+plainStatement x p k r = cond (eqb (r .category) 3) (cond (eqb k 3) true (cond (eqb k 4) true (onlyExpressions (r .below x p)))) true
+
+-- and of expressions but 20 and 21
+unfoldable plainExpression : ℕ → ℕ → ℕ → Row → Bool
+plainExpression x p k r = cond (eqb (r .category) 4) (cond (eqb k 20) true (cond (eqb k 21) true (onlyExpressions (r .below x p)))) true
+
+unfoldable elementKind : ℕ → Row → Bool
+elementKind k r = cond (eqb (r .category) 9) (cond (eqb k 30) true (cond (eqb k 33) true (cond (eqb k 31) true (eqb k 32)))) true
+
+-- the categories whose records have no children
+unfoldable isLeaf : ℕ → Bool
+isLeaf c = lookup c ((1, false) ∷ (3, false) ∷ (4, false) ∷ (5, false) ∷ (7, false) ∷ (8, false) ∷ (9, false) ∷ (10, false) ∷ (11, false) ∷ (12, false) ∷ []) true
+
+unfoldable isNone : List Run → Bool
+isNone [] = true
+isNone (r ∷ rs) = false
+
+unfoldable leafRow : ℕ → ℕ → ℕ → Row → Bool
+leafRow x p k r = cond (isLeaf (r .category)) (isNone (r .below x p)) true
+
+module _ (k x p : ℕ) where
+  statement-plain : rowOf k .category ≡ 3 → (k ≡ 3 → ⊥) → (k ≡ 4 → ⊥) → T (onlyExpressions (rowOf k .below x p))
+  unfolding each table row noRow leaf expressions oneExpression statements plainStatement onlyExpressions
+  statement-plain e a b = one-off _ k 4 b (one-off _ k 3 a (implied (eqb (rowOf k .category) 3) _ (each-row (plainStatement x p) tt k tt) (eq-eqb _ _ e)))
+
+  expression-plain : rowOf k .category ≡ 4 → (k ≡ 20 → ⊥) → (k ≡ 21 → ⊥) → T (onlyExpressions (rowOf k .below x p))
+  unfolding each table row noRow leaf expressions oneExpression statements plainExpression onlyExpressions
+  expression-plain e a b = one-off _ k 21 b (one-off _ k 20 a (implied (eqb (rowOf k .category) 4) _ (each-row (plainExpression x p) tt k tt) (eq-eqb _ _ e)))
+
+  leaf-none : isLeaf (rowOf k .category) ≡ true → T (isNone (rowOf k .below x p))
+  unfolding each table row noRow leaf expressions oneExpression statements leafRow isLeaf isNone lookup
+  leaf-none e = implied (isLeaf (rowOf k .category)) _ (each-row (leafRow x p) tt k tt) e
+
+element-two : (k : ℕ) → rowOf k .category ≡ 9 → (k ≡ 30 → ⊥) → (k ≡ 33 → ⊥) → (k ≡ 31) ⊎ (k ≡ 32)
+unfolding each table row noRow elementKind
+element-two k e a b = go (eqb k 31) refl (one-off _ k 33 b (one-off _ k 30 a (implied (eqb (rowOf k .category) 9) _ (each-row elementKind tt k tt) (eq-eqb _ _ e))))
+  where
+    go : (y : Bool) → eqb k 31 ≡ y → T (cond y true (eqb k 32)) → (k ≡ 31) ⊎ (k ≡ 32)
+    go true f u = inl (eqb-true k 31 f)
+    go false f u = inr (eqb→eq k 32 u)
+
+-- the places of expressions only
+plain-places : (d : ℕ) (rs : List Run) → T (onlyExpressions rs) → places d rs ≡ replicate (total rs) (place expression d)
+unfolding onlyExpressions places total
+plain-places d [] t = refl
+plain-places d (r ∷ rs) t =
+    let u = test-right (eqb (r .slot .category) 4) (cond (eqb (r .slot .context) 0) (onlyExpressions rs) false) t in
+    let c : r .slot .category ≡ 4 = eqb→eq (r .slot .category) 4 (test-left (eqb (r .slot .category) 4) (cond (eqb (r .slot .context) 0) (onlyExpressions rs) false) t) in
+    let x : r .slot .context ≡ 0 = eqb→eq (r .slot .context) 0 (test-left (eqb (r .slot .context) 0) (onlyExpressions rs) u) in
+    let q : place (r .slot) d ≡ place expression d = ap (λ (n : ℕ). place (slot n (r .slot .context)) d) c ∙ ap (λ (n : ℕ). place (slot 4 n) d) x in
+    rw (q, plain-places d rs (test-right (eqb (r .slot .context) 0) (onlyExpressions rs) u)) (replicate-append-replicate (r .count) (total rs) (place expression d))
+
+none-places : (d : ℕ) (rs : List Run) → T (isNone rs) → places d rs ≡ []
+unfolding isNone places
+none-places d [] t = refl
+none-places d (r ∷ rs) t = absurd t
+
+-- an accessor has no value
+accessor-flag : (k x p p′ : ℕ) → k ≡ 32 → p ≡ p′ → holds (rowOf k .rule) x p′ ≡ true → p / 2 % 2 ≡ 0
+unfolding rowOf lookup table row holds
+accessor-flag k x p p′ ek ep e =
+    let f : holds (rowOf 32 .rule) x p ≡ true = ap (λ (n : ℕ). holds (rowOf n .rule) x p) (sym ek) ∙ ap (holds (rowOf k .rule) x) ep ∙ e in
+    let u : p < 2 = ltb-true p 2 f in
+    omega arith
+
+-- ---- the places below a record without fault, by its kind or category: p is its payload, `left` the number of levels left
+
+module _ {s : ℕ} {ws : List ℕ} {at p : ℕ} (c x left : ℕ) (h : Here s ws at (place (slot c x) (maxDepth + 1 - left))) (le : left ≤ maxDepth) (ep : p ≡ payloadOf (getD ws at 0)) where
+  -- the depth of the children
+  abbrev d : ℕ
+  d = maxDepth + 1 - (left - 1)
+
+  abbrev Below : List Place → Type 0
+  Below qs = belowAt (place (slot c x) (maxDepth + 1 - left)) (getD ws at 0) ≡ qs
+
+  below-d : d ≡ maxDepth + 1 - left + 1
+  below-d = omega (arith, here-depth c x (maxDepth + 1 - left) h)
+
+  by-kind : (k : ℕ) → kindOf (getD ws at 0) ≡ k → Below (places d (rowOf k .below x p))
+  unfolding belowAt below place
+  by-kind k ek = rw (ek, ← ep, below-d)
+
+  by-category : (n : ℕ) → c ≡ n → T (ltb (soleKind n) 64) → Below (places d (rowOf (soleKind n) .below x p))
+  by-category n e t = by-kind (soleKind n) (kind-sole (kindOf (getD ws at 0)) n (here-category c x (maxDepth + 1 - left) h ∙ e) t)
+
+  pub block-children : kindOf (getD ws at 0) ≡ 3 → Below (replicate p (place statement d) ++ [])
+  unfolding places rowOf lookup table row statements
+  block-children e = by-kind 3 e
+
+  pub class-statement-children : kindOf (getD ws at 0) ≡ 4 → Below (replicate 1 (place (classUnder p) d) ++ [])
+  unfolding places rowOf lookup table row
+  class-statement-children e = by-kind 4 e
+
+  pub class-expression-children : kindOf (getD ws at 0) ≡ 20 → Below (replicate 1 (place classExpression d) ++ [])
+  unfolding places rowOf lookup table row
+  class-expression-children e = by-kind 20 e
+
+  pub function-children : kindOf (getD ws at 0) ≡ 21 → Below (replicate 1 (place functionParameters d) ++ (replicate 1 (place code d) ++ []))
+  unfolding places rowOf lookup table row
+  function-children e = by-kind 21 e
+
+  pub method-children : kindOf (getD ws at 0) ≡ 30 → Below (replicate 1 (place (methodDecorators (p / 2 % 2)) d) ++ (replicate 1 (place key d) ++ (replicate 1 (place methodParameters d) ++ (replicate (p / 4 % 2) (place code d) ++ []))))
+  unfolding places rowOf lookup table row bit1 bit2
+  method-children e = by-kind 30 e
+
+  pub static-block-children : kindOf (getD ws at 0) ≡ 33 → Below (replicate p (place statement d) ++ [])
+  unfolding places rowOf lookup table row statements
+  static-block-children e = by-kind 33 e
+
+  pub class-children : c ≡ Class → Below (replicate 1 (place decorators d) ++ (replicate (p % 2) (place id d) ++ (replicate (p / 4 % 2) (place expression d) ++ (replicate 1 (place body d) ++ []))))
+  unfolding places rowOf lookup table row bit0 bit2 soleKind
+  class-children e = by-category Class e tt
+
+  pub decorators-children : c ≡ Decorators → Below (replicate p (place expression d) ++ [])
+  unfolding places rowOf lookup table row expressions soleKind
+  decorators-children e = by-category Decorators e tt
+
+  pub body-children : c ≡ Body → Below (replicate p (place element d) ++ [])
+  unfolding places rowOf lookup table row soleKind
+  body-children e = by-category Body e tt
+
+  pub parameters-children : c ≡ Parameters → Below (replicate p (place (parameterOf x) d) ++ [])
+  unfolding places rowOf lookup table row soleKind
+  parameters-children e = by-category Parameters e tt
+
+  pub parameter-children : c ≡ Parameter → Below (replicate 1 (place (parameterDecorators x) d) ++ (replicate p (place expression d) ++ []))
+  unfolding places rowOf lookup table row soleKind
+  parameter-children e = by-category Parameter e tt
+
+  pub code-children : c ≡ Code → Below (replicate p (place statement d) ++ [])
+  unfolding places rowOf lookup table row statements soleKind
+  code-children e = by-category Code e tt
+
+  pub module-children : c ≡ Module → Below (replicate 1 (place symbols d) ++ (replicate p (place ownStatement d) ++ []))
+  unfolding places rowOf lookup table row soleKind
+  module-children e = by-category Module e tt
+
+  -- a property or an accessor
+  pub field-children : c ≡ Element → (kindOf (getD ws at 0) ≡ 30 → ⊥) → (kindOf (getD ws at 0) ≡ 33 → ⊥)
+      → Below (replicate 1 (place decorators d) ++ (replicate 1 (place key d) ++ replicate (p / 2 % 2) (place expression d)))
+  unfolding places rowOf lookup table row bit1
+  field-children e a b =
+      let k : ℕ = kindOf (getD ws at 0) in
+      let property : k ≡ 31 → Below (replicate 1 (place decorators d) ++ (replicate 1 (place key d) ++ replicate (p / 2 % 2) (place expression d))) =
+      λ f. by-kind 31 f ∙ ap (λ (l : List Place). place decorators d ∷ place key d ∷ l) (append-nil (replicate (p / 2 % 2) (place expression d))) in
+      let accessor : k ≡ 32 → Below (replicate 1 (place decorators d) ++ (replicate 1 (place key d) ++ replicate (p / 2 % 2) (place expression d))) =
+      λ f. by-kind 32 f ∙ ap (λ (n : ℕ). place decorators d ∷ place key d ∷ replicate n (place expression d)) (sym (accessor-flag k x p (payloadOf (getD ws at 0)) f ep (here-rule c x (maxDepth + 1 - left) h))) in
+      ⊎-elim property accessor (element-two k (here-category c x (maxDepth + 1 - left) h ∙ e) a b)
+
+  pub leaf-children : Other c → (c ≡ Decorators → ⊥) → (c ≡ Body → ⊥) → (c ≡ Parameters → ⊥) → (c ≡ Parameter → ⊥) → (c ≡ Code → ⊥) → (c ≡ Module → ⊥) → Below []
+  unfolding isLeaf lookup
+  leaf-children n n7 n8 n10 n11 n12 n1 =
+      let k : ℕ = kindOf (getD ws at 0) in
+      let t : isLeaf c ≡ true = rw (ne-eqb c 1 n1, ne-eqb c 3 (n .statement), ne-eqb c 4 (n .expression), ne-eqb c 5 (n .class), ne-eqb c 7 n7, ne-eqb c 8 n8, ne-eqb c 9 (n .element), ne-eqb c 10 n10, ne-eqb c 11 n11, ne-eqb c 12 n12) in
+      by-kind k refl ∙ none-places d (rowOf k .below x p) (leaf-none k x p (ap isLeaf (here-category c x (maxDepth + 1 - left) h) ∙ t))
+
+  -- a record whose children are n expressions
+  plain-children : (n : ℕ) → n ≡ children (kindOf (getD ws at 0)) (payloadOf (getD ws at 0)) → T (onlyExpressions (rowOf (kindOf (getD ws at 0)) .below x p)) → Below (replicate n (place expression d))
+  plain-children n en t =
+      by-kind (kindOf (getD ws at 0)) refl ∙ plain-places d (rowOf (kindOf (getD ws at 0)) .below x p) t
+      ∙ ap (λ (m : ℕ). replicate m (place expression d)) (ap (λ (m : ℕ). total (rowOf (kindOf (getD ws at 0)) .below x m)) ep ∙ here-total c x (maxDepth + 1 - left) h ∙ sym en)
+
+  pub statement-children : (n : ℕ) → n ≡ children (kindOf (getD ws at 0)) (payloadOf (getD ws at 0)) → c ≡ Statement → (kindOf (getD ws at 0) ≡ 3 → ⊥) → (kindOf (getD ws at 0) ≡ 4 → ⊥) → Below (replicate n (place expression d))
+  statement-children n en e a b = plain-children n en (statement-plain (kindOf (getD ws at 0)) x p (here-category c x (maxDepth + 1 - left) h ∙ e) a b)
+
+  pub expression-children : (n : ℕ) → n ≡ children (kindOf (getD ws at 0)) (payloadOf (getD ws at 0)) → c ≡ Expression → (kindOf (getD ws at 0) ≡ 20 → ⊥) → (kindOf (getD ws at 0) ≡ 21 → ⊥) → Below (replicate n (place expression d))
+  expression-children n en e a b = plain-children n en (expression-plain (kindOf (getD ws at 0)) x p (here-category c x (maxDepth + 1 - left) h ∙ e) a b)

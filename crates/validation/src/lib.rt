@@ -1,0 +1,451 @@
+// Validation: refusals 1 to 6 of a module's words. Reads the words, writes nothing.
+ghost use mathlib.Core.Path.{_≡_};
+ghost use mathlib.Core.List.{[], _∷_};
+ghost use Prim.Native.Nat.{_+_, _-_, _≤_};
+ghost use lib.ListN.{replicate, getD};
+ghost use Rattle.words.specs.Word.{kindOf};
+ghost use Rattle.grammar.specs.Limits.{maxDepth};
+ghost use Rattle.grammar.specs.Grammar.{slot, Statement, Expression, Class, Element};
+ghost use Rattle.grammar.specs.Scan.{place, belowAt, symbolsOf, refusal};
+ghost use Rattle.validation.specs.Verdict.{numberOf};
+ghost use Rattle.validation.specs.Walked.{Walked, Here, Other};
+
+pub enum Verdict {
+    Accepted,
+    // No words, or too many.
+    BadLength,
+    // A word that may not stand where it does, an early end, or words left over.
+    Malformed,
+    TooDeep,
+    UnknownSymbol,
+    TooManySymbols,
+    DecoratedConstructor,
+}
+
+// A walker's answer: the refusal that it met, or 0 and the place behind what it walked.
+pub struct Step {
+    pub fault: u32,
+    pub next: usize,
+}
+
+// The walkers. `s` is the number of symbols, `left` the number of levels that are left, the walked records' own counted: it falls from a record to
+// its children. Siblings are walked by a loop, so that the calls nest no deeper than the records.
+
+// n records of one category.
+fn records(ws: &[u32], at: usize, s: u32, category: u8, context: u32, left: u32, n: u64) -> Step
+    requires { ⌜ left ≤ maxDepth ⌝ }
+    ensures { λ r. ⌜ Walked s (now (ws .entry)) at (replicate n (place (slot category context) (maxDepth + 1 - left))) r ⌝ }
+{
+    let mut p = at;
+    let mut i = 0;
+    while i < n {
+        let r = one_record(ws, p, s, category, context, left);
+        if r.fault != 0 {
+            return r;
+        }
+        p = r.next;
+        i += 1;
+    }
+    Step { fault: 0, next: p }
+}
+
+// One record.
+fn one_record(ws: &[u32], at: usize, s: u32, category: u8, context: u32, left: u32) -> Step
+    requires { ⌜ left ≤ maxDepth ⌝ }
+    ensures { λ r. ⌜ Walked s (now (ws .entry)) at (place (slot category context) (maxDepth + 1 - left) ∷ []) r ⌝ }
+{
+    if ws.len() <= at {
+        return Step { fault: 2, next: at };
+    }
+    let f = grammar::fault(s, category, context, left, ws[at]);
+    if f != 0 {
+        return Step { fault: f, next: at };
+    }
+    if category == grammar::STATEMENT {
+        return statement(ws, at, s, context, left);
+    }
+    if category == grammar::EXPRESSION {
+        return expression(ws, at, s, context, left);
+    }
+    if category == grammar::CLASS {
+        return class(ws, at, s, context, left);
+    }
+    if category == grammar::ELEMENT {
+        return element(ws, at, s, context, left);
+    }
+    other(ws, at, s, category, context, left)
+}
+
+// What stands below a statement whose own word has no fault; in the same way below an expression, a class, an element of a class, any other record.
+fn statement(ws: &[u32], at: usize, s: u32, context: u32, left: u32) -> Step
+    requires { ⌜ Here s (now ws) at (place (slot Statement context) (maxDepth + 1 - left)) × (left ≤ maxDepth) ⌝ }
+    ensures { λ r. ⌜ Walked s (now (ws .entry)) (at + 1) (belowAt (place (slot Statement context) (maxDepth + 1 - left)) (getD (now (ws .entry)) at 0)) r ⌝ }
+{
+    let w = ws[at];
+    let kind = words::kind_of(w);
+    if kind == 3 {
+        return records(
+            ws,
+            at + 1,
+            s,
+            grammar::STATEMENT,
+            grammar::PLAIN,
+            left - 1,
+            words::payload_of(w) as u64,
+        );
+    }
+    if kind == 4 {
+        return records(
+            ws,
+            at + 1,
+            s,
+            grammar::CLASS,
+            words::payload_of(w),
+            left - 1,
+            1,
+        );
+    }
+    records(
+        ws,
+        at + 1,
+        s,
+        grammar::EXPRESSION,
+        grammar::PLAIN,
+        left - 1,
+        words::child_count(w) as u64,
+    )
+}
+
+fn expression(ws: &[u32], at: usize, s: u32, context: u32, left: u32) -> Step
+    requires { ⌜ Here s (now ws) at (place (slot Expression context) (maxDepth + 1 - left)) × (left ≤ maxDepth) ⌝ }
+    ensures { λ r. ⌜ Walked s (now (ws .entry)) (at + 1) (belowAt (place (slot Expression context) (maxDepth + 1 - left)) (getD (now (ws .entry)) at 0)) r ⌝ }
+{
+    let w = ws[at];
+    let kind = words::kind_of(w);
+    if kind == 20 {
+        return records(
+            ws,
+            at + 1,
+            s,
+            grammar::CLASS,
+            grammar::CLASS_EXPRESSION,
+            left - 1,
+            1,
+        );
+    }
+    if kind == 21 {
+        let a = records(
+            ws,
+            at + 1,
+            s,
+            grammar::PARAMETERS,
+            grammar::OF_FUNCTION,
+            left - 1,
+            1,
+        );
+        if a.fault != 0 {
+            return a;
+        }
+        return records(ws, a.next, s, grammar::CODE, grammar::PLAIN, left - 1, 1);
+    }
+    records(
+        ws,
+        at + 1,
+        s,
+        grammar::EXPRESSION,
+        grammar::PLAIN,
+        left - 1,
+        words::child_count(w) as u64,
+    )
+}
+
+fn class(ws: &[u32], at: usize, s: u32, context: u32, left: u32) -> Step
+    requires { ⌜ Here s (now ws) at (place (slot Class context) (maxDepth + 1 - left)) × (left ≤ maxDepth) ⌝ }
+    ensures { λ r. ⌜ Walked s (now (ws .entry)) (at + 1) (belowAt (place (slot Class context) (maxDepth + 1 - left)) (getD (now (ws .entry)) at 0)) r ⌝ }
+{
+    let flags = words::payload_of(ws[at]);
+    let a = records(
+        ws,
+        at + 1,
+        s,
+        grammar::DECORATORS,
+        grammar::PLAIN,
+        left - 1,
+        1,
+    );
+    if a.fault != 0 {
+        return a;
+    }
+    let b = records(
+        ws,
+        a.next,
+        s,
+        grammar::ID,
+        grammar::PLAIN,
+        left - 1,
+        (flags % 2) as u64,
+    );
+    if b.fault != 0 {
+        return b;
+    }
+    let c = records(
+        ws,
+        b.next,
+        s,
+        grammar::EXPRESSION,
+        grammar::PLAIN,
+        left - 1,
+        (flags / 4 % 2) as u64,
+    );
+    if c.fault != 0 {
+        return c;
+    }
+    records(ws, c.next, s, grammar::BODY, grammar::PLAIN, left - 1, 1)
+}
+
+fn element(ws: &[u32], at: usize, s: u32, context: u32, left: u32) -> Step
+    requires { ⌜ Here s (now ws) at (place (slot Element context) (maxDepth + 1 - left)) × (left ≤ maxDepth) ⌝ }
+    ensures { λ r. ⌜ Walked s (now (ws .entry)) (at + 1) (belowAt (place (slot Element context) (maxDepth + 1 - left)) (getD (now (ws .entry)) at 0)) r ⌝ }
+{
+    let w = ws[at];
+    let kind = words::kind_of(w);
+    if kind == 30 {
+        return method(ws, at, s, context, left);
+    }
+    let payload = words::payload_of(w);
+    if kind == 33 {
+        return records(
+            ws,
+            at + 1,
+            s,
+            grammar::STATEMENT,
+            grammar::PLAIN,
+            left - 1,
+            payload as u64,
+        );
+    }
+    let a = records(
+        ws,
+        at + 1,
+        s,
+        grammar::DECORATORS,
+        grammar::PLAIN,
+        left - 1,
+        1,
+    );
+    if a.fault != 0 {
+        return a;
+    }
+    let b = records(
+        ws,
+        a.next,
+        s,
+        grammar::EXPRESSION,
+        grammar::AS_KEY,
+        left - 1,
+        1,
+    );
+    if b.fault != 0 {
+        return b;
+    }
+    records(
+        ws,
+        b.next,
+        s,
+        grammar::EXPRESSION,
+        grammar::PLAIN,
+        left - 1,
+        (payload / 2 % 2) as u64,
+    )
+}
+
+fn method(ws: &[u32], at: usize, s: u32, context: u32, left: u32) -> Step
+    requires { ⌜ Here s (now ws) at (place (slot Element context) (maxDepth + 1 - left)) × (kindOf (getD (now ws) at 0) ≡ 30) × (left ≤ maxDepth) ⌝ }
+    ensures { λ r. ⌜ Walked s (now (ws .entry)) (at + 1) (belowAt (place (slot Element context) (maxDepth + 1 - left)) (getD (now (ws .entry)) at 0)) r ⌝ }
+{
+    let flags = words::payload_of(ws[at]);
+    let a = records(
+        ws,
+        at + 1,
+        s,
+        grammar::DECORATORS,
+        flags / 2 % 2,
+        left - 1,
+        1,
+    );
+    if a.fault != 0 {
+        return a;
+    }
+    let b = records(
+        ws,
+        a.next,
+        s,
+        grammar::EXPRESSION,
+        grammar::AS_KEY,
+        left - 1,
+        1,
+    );
+    if b.fault != 0 {
+        return b;
+    }
+    let c = records(
+        ws,
+        b.next,
+        s,
+        grammar::PARAMETERS,
+        grammar::PLAIN,
+        left - 1,
+        1,
+    );
+    if c.fault != 0 {
+        return c;
+    }
+    records(
+        ws,
+        c.next,
+        s,
+        grammar::CODE,
+        grammar::PLAIN,
+        left - 1,
+        (flags / 4 % 2) as u64,
+    )
+}
+
+fn other(ws: &[u32], at: usize, s: u32, category: u8, context: u32, left: u32) -> Step
+    requires { ⌜ Here s (now ws) at (place (slot category context) (maxDepth + 1 - left)) × Other category × (left ≤ maxDepth) ⌝ }
+    ensures { λ r. ⌜ Walked s (now (ws .entry)) (at + 1) (belowAt (place (slot category context) (maxDepth + 1 - left)) (getD (now (ws .entry)) at 0)) r ⌝ }
+{
+    let n = words::payload_of(ws[at]) as u64;
+    if category == grammar::DECORATORS {
+        return records(
+            ws,
+            at + 1,
+            s,
+            grammar::EXPRESSION,
+            grammar::PLAIN,
+            left - 1,
+            n,
+        );
+    }
+    if category == grammar::BODY {
+        return records(ws, at + 1, s, grammar::ELEMENT, grammar::PLAIN, left - 1, n);
+    }
+    if category == grammar::PARAMETERS {
+        return records(ws, at + 1, s, grammar::PARAMETER, context, left - 1, n);
+    }
+    if category == grammar::PARAMETER {
+        let a = records(ws, at + 1, s, grammar::DECORATORS, context, left - 1, 1);
+        if a.fault != 0 {
+            return a;
+        }
+        return records(
+            ws,
+            a.next,
+            s,
+            grammar::EXPRESSION,
+            grammar::PLAIN,
+            left - 1,
+            n,
+        );
+    }
+    if category == grammar::CODE {
+        return records(
+            ws,
+            at + 1,
+            s,
+            grammar::STATEMENT,
+            grammar::PLAIN,
+            left - 1,
+            n,
+        );
+    }
+    if category == grammar::MODULE {
+        let a = records(ws, at + 1, s, grammar::SYMBOLS, grammar::PLAIN, left - 1, 1);
+        if a.fault != 0 {
+            return a;
+        }
+        return records(
+            ws,
+            a.next,
+            s,
+            grammar::STATEMENT,
+            grammar::OWN_LIST,
+            left - 1,
+            n,
+        );
+    }
+    Step {
+        fault: 0,
+        next: at + 1,
+    }
+}
+
+// The number of symbols that the second word says.
+fn symbol_count(ws: &[u32]) -> u32
+    ensures { λ r. ⌜ r ≡ symbolsOf (now (ws .entry)) ⌝ }
+{
+    if ws.len() < 2 {
+        return 0;
+    }
+    words::payload_of(ws[1])
+}
+
+// The verdict of a refusal's number.
+fn verdict_of(fault: u32) -> Verdict
+    requires { ⌜ fault ≤ 6 ⌝ }
+    ensures { λ r. ⌜ numberOf r ≡ fault ⌝ }
+{
+    match fault {
+        0 => Verdict::Accepted,
+        1 => Verdict::BadLength,
+        2 => Verdict::Malformed,
+        3 => Verdict::TooDeep,
+        4 => Verdict::UnknownSymbol,
+        5 => Verdict::TooManySymbols,
+        _ => Verdict::DecoratedConstructor,
+    }
+}
+
+// Is the list of words a module, or which refusal of 1 to 6 is it.
+pub fn validate(ws: &[u32]) -> Verdict
+    ensures { λ r. ⌜ numberOf r ≡ refusal (now (ws .entry)) ⌝ }
+{
+    if ws.len() == 0 {
+        return Verdict::BadLength;
+    }
+    if grammar::MAX_WORDS < ws.len() {
+        return Verdict::BadLength;
+    }
+    let s = symbol_count(ws);
+    let r = one_record(
+        ws,
+        0,
+        s,
+        grammar::MODULE,
+        grammar::PLAIN,
+        grammar::MAX_DEPTH,
+    );
+    let f = r.fault;
+    if f != 0 {
+        return verdict_of(f);
+    }
+    if r.next < ws.len() {
+        return Verdict::Malformed;
+    }
+    Verdict::Accepted
+}
+
+// The first of the three numbers returned.
+pub fn number(verdict: Verdict) -> u32
+    ensures { λ r. ⌜ r ≡ numberOf verdict ⌝ }
+{
+    match verdict {
+        Verdict::Accepted => 0,
+        Verdict::BadLength => 1,
+        Verdict::Malformed => 2,
+        Verdict::TooDeep => 3,
+        Verdict::UnknownSymbol => 4,
+        Verdict::TooManySymbols => 5,
+        Verdict::DecoratedConstructor => 6,
+    }
+}
