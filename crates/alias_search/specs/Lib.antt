@@ -1,0 +1,17 @@
+pub mod Ors
+pub mod Mentions
+pub mod Shown
+pub mod Visited
+pub mod Older
+pub mod Roles
+pub mod Kept
+pub mod Formed
+pub mod Fit
+pub mod Quiet
+pub mod Member
+pub mod Read
+pub mod Body
+pub mod Class
+pub mod Search
+pub mod Walk
+pub mod Place

@@ -1,0 +1,58 @@
+-- `contains`: the words of the records follow one another, and none of those passed is of the kind.
+use mathlib.Core.Path.{_≡_, sym, _∙_}
+use Prim.Native.Nat.{_-_}
+use native.Mathlib.Omega.{arith}
+use borrow.Author.Tests.{eq-eqb, ne-eqb}
+use borrow.Author.Needs.{needs}
+use Rattle.records.specs.Label.{is}
+use Rattle.records.specs.Place.{end-low, endOf}
+use Rattle.inspect.specs.Inside.{Searched, searched-all, searched-hit, searched-next, searched-start}
+use Rattle.inspect.proofs.contains.Statement.{statement}
+use Rattle.inspect.proofs.contains.Tie as tie
+
+abbrev Inv-loop : tie.InvT-loop
+Inv-loop ws at k kind e i₀ i = (e ≡ endOf ws at k) × Searched (is kind) ws at k e i
+
+abbrev μ-loop : tie.MeasureT-loop
+μ-loop ws at k kind e i₀ i = e - i
+
+skip-requires : tie.Need-skip-requires Inv-loop μ-loop
+skip-requires c κs = search needs
+
+loop-holds : tie.Need-loop-holds Inv-loop μ-loop
+loop-holds c = (c .skip .ensures, searched-start _ _ _ _ (c .skip .ensures) (omega (arith, c .skip .ensures, end-low (c .before .before .args .ws .now) (c .before .before .args .at) (c .before .before .args .k))))
+
+kind-at-requires : tie.Need-kind-at-requires Inv-loop μ-loop
+kind-at-requires c κs = search needs
+
+returns : tie.Need-returns Inv-loop μ-loop
+unfolding is
+returns c = sym (searched-hit _ _ _ _ (c .before .before .before .loop .inv .1) (c .before .before .loop-test .taken) (eq-eqb _ _ (sym (c .before .kind-at .ensures) ∙ c .if1 .taken)))
+
+add-i : tie.Need-add-i Inv-loop μ-loop
+add-i c = search needs
+
+loop-less : tie.Need-loop-less Inv-loop μ-loop
+loop-less c = search needs
+
+loop-again : tie.Need-loop-again Inv-loop μ-loop
+unfolding is
+loop-again c = (c .before .before .before .loop .inv .0, searched-next _ _ _ _ (c .before .before .before .loop .inv .1) (c .before .before .loop-test .taken) (ne-eqb _ _ (λ e. c .if1 .left (c .before .kind-at .ensures ∙ e))))
+
+returns-2 : tie.Need-returns-2 Inv-loop μ-loop
+returns-2 c = sym (searched-all _ _ _ _ (c .before .loop .inv .1) (c .loop-test .left))
+
+pub contains-spec : {M : Type 1} → statement M
+contains-spec =
+    tie.close
+    (tie.spec
+    Inv-loop
+    μ-loop
+    skip-requires
+    loop-holds
+    kind-at-requires
+    returns
+    add-i
+    loop-less
+    loop-again
+    returns-2)

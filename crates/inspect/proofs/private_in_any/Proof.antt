@@ -1,0 +1,59 @@
+-- `private_in_any`: none of the parameters passed has one.
+use mathlib.Core.Path.{sym, _∙_}
+use Prim.Native.Nat.{_-_}
+use borrow.Author.Needs.{needs}
+use Rattle.inspect.specs.Private.{privateIn}
+use Rattle.inspect.specs.Row.{Passed, any-all, any-hit, any-past, passed-next, passed-start}
+use Rattle.inspect.proofs.private_in_any.Statement.{statement}
+use Rattle.inspect.proofs.private_in_any.Tie as tie
+
+abbrev Inv-loop : tie.InvT-loop
+Inv-loop ws at k q₀ i₀ q i = Passed privateIn ws at k q i
+
+abbrev μ-loop : tie.MeasureT-loop
+μ-loop ws at k q₀ i₀ q i = k - i
+
+loop-holds : tie.Need-loop-holds Inv-loop μ-loop
+loop-holds c = passed-start privateIn (c .before .args .ws .now) (c .before .args .at) (c .before .args .k)
+
+returns : tie.Need-returns Inv-loop μ-loop
+returns c = sym (any-past _ _ _ _ (c .before .before .loop .inv) (c .if1 .taken))
+
+private-in-requires : tie.Need-private-in-requires Inv-loop μ-loop
+private-in-requires c κs = search needs
+
+returns-2 : tie.Need-returns-2 Inv-loop μ-loop
+unfolding privateIn
+returns-2 c = sym (any-hit _ _ _ _ (c .before .before .before .before .loop .inv) (c .before .before .before .loop-test .taken) (c .before .before .if1 .left) (sym (c .before .private-in .ensures) ∙ c .if2 .taken))
+
+skip-requires : tie.Need-skip-requires Inv-loop μ-loop
+skip-requires c κs = search needs
+
+add-i : tie.Need-add-i Inv-loop μ-loop
+add-i c = search needs
+
+loop-less : tie.Need-loop-less Inv-loop μ-loop
+loop-less c = search needs
+
+loop-again : tie.Need-loop-again Inv-loop μ-loop
+unfolding privateIn
+loop-again c = passed-next _ _ _ _ (c .before .before .before .before .before .loop .inv) (c .before .before .before .before .loop-test .taken) (c .before .before .before .if1 .left) (c .skip .ensures) (sym (c .before .before .private-in .ensures) ∙ c .before .if2 .left)
+
+returns-3 : tie.Need-returns-3 Inv-loop μ-loop
+returns-3 c = sym (any-all _ _ _ _ (c .before .loop .inv) (c .loop-test .left))
+
+pub private-in-any-spec : {M : Type 1} → statement M
+private-in-any-spec =
+    tie.close
+    (tie.spec
+    Inv-loop
+    μ-loop
+    loop-holds
+    returns
+    private-in-requires
+    returns-2
+    skip-requires
+    add-i
+    loop-less
+    loop-again
+    returns-3)

@@ -1,0 +1,57 @@
+-- `private_in_elements`: none of the elements passed has one.
+use mathlib.Core.Path.{sym, _∙_}
+use Prim.Native.Nat.{_-_}
+use borrow.Author.Needs.{needs}
+use Rattle.inspect.specs.Private.{elements-private, privateInElement}
+use Rattle.inspect.specs.Row.{Passed, any-all, any-hit, any-past, passed-next, passed-start}
+use Rattle.inspect.proofs.private_in_elements.Statement.{statement}
+use Rattle.inspect.proofs.private_in_elements.Tie as tie
+
+abbrev Inv-loop : tie.InvT-loop
+Inv-loop ws at k q₀ i₀ q i = Passed privateInElement ws at k q i
+
+abbrev μ-loop : tie.MeasureT-loop
+μ-loop ws at k q₀ i₀ q i = k - i
+
+loop-holds : tie.Need-loop-holds Inv-loop μ-loop
+loop-holds c = passed-start privateInElement (c .before .args .ws .now) (c .before .args .at) (c .before .args .k)
+
+returns : tie.Need-returns Inv-loop μ-loop
+returns c = sym (elements-private _ ∙ any-past _ _ _ _ (c .before .before .loop .inv) (c .if1 .taken))
+
+private-in-element-requires : tie.Need-private-in-element-requires Inv-loop μ-loop
+private-in-element-requires c κs = search needs
+
+returns-2 : tie.Need-returns-2 Inv-loop μ-loop
+returns-2 c = sym (elements-private _ ∙ any-hit _ _ _ _ (c .before .before .before .before .loop .inv) (c .before .before .before .loop-test .taken) (c .before .before .if1 .left) (sym (c .before .private-in-element .ensures) ∙ c .if2 .taken))
+
+skip-requires : tie.Need-skip-requires Inv-loop μ-loop
+skip-requires c κs = search needs
+
+add-i : tie.Need-add-i Inv-loop μ-loop
+add-i c = search needs
+
+loop-less : tie.Need-loop-less Inv-loop μ-loop
+loop-less c = search needs
+
+loop-again : tie.Need-loop-again Inv-loop μ-loop
+loop-again c = passed-next _ _ _ _ (c .before .before .before .before .before .loop .inv) (c .before .before .before .before .loop-test .taken) (c .before .before .before .if1 .left) (c .skip .ensures) (sym (c .before .before .private-in-element .ensures) ∙ c .before .if2 .left)
+
+returns-3 : tie.Need-returns-3 Inv-loop μ-loop
+returns-3 c = sym (elements-private _ ∙ any-all _ _ _ _ (c .before .loop .inv) (c .loop-test .left))
+
+pub private-in-elements-spec : {M : Type 1} → statement M
+private-in-elements-spec =
+    tie.close
+    (tie.spec
+    Inv-loop
+    μ-loop
+    loop-holds
+    returns
+    private-in-element-requires
+    returns-2
+    skip-requires
+    add-i
+    loop-less
+    loop-again
+    returns-3)

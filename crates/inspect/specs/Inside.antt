@@ -1,0 +1,116 @@
+-- Tests of every word and of every record at any depth, by places: the words of k records follow one another. Assumes nothing.
+use mathlib.Core.Path.{_≡_, refl, ap, sym, _∙_}
+use mathlib.Core.Bool.{Bool, true, false, _||_, or-assoc}
+use mathlib.Core.List.{List}
+use Prim.Native.Nat.{ℕ, zero, suc, _+_, _-_, _<_, _≤_}
+use native.Mathlib.Omega.{arith}
+use lib.ListN.{length}
+use Rattle.records.specs.Forest.{end, node, flat, size, takeF, dropF, appendF, anyF, anyF-append, size-append, size-node, take-drop, takeF-add, takeF-end}
+use Rattle.records.specs.Label.{Label, Trees}
+use Rattle.records.specs.Place.{recordsAt, labelAt, arityAt, kidsAt, endOf, records-node, records-past}
+use Rattle.rewriting.specs.Parts.{anyRecord}
+use Rattle.inspect.specs.Row.{Test, by-end}
+
+-- does one of the n words from the place i on meet a test
+unfoldable pub anyWord : (Label → Bool) → List ℕ → ℕ → ℕ → Bool
+anyWord p ws i zero = false
+anyWord p ws i (suc n) = p (labelAt ws i) || anyWord p ws (i + 1) n
+
+-- ---- the words of records
+
+module _ (p : Label → Bool) where
+  any-node : (l : Label) (kids rest : Trees) → anyF p (node l kids rest) ≡ (p l || anyF p (appendF kids rest))
+  unfolding anyF
+  any-node l kids rest = or-assoc (p l) (anyF p kids) (anyF p rest) ∙ ap (p l ||_) (sym (anyF-append p kids rest))
+
+module _ (ws : List ℕ) where
+  -- the first record and k others: its word, then its children and the others
+  open-row : (at k : ℕ) → at < length ws → takeF (suc k) (recordsAt ws at) ≡ node (labelAt ws at) (kidsAt ws at) (takeF k (dropF (arityAt ws at) (recordsAt ws (at + 1))))
+  open-row at k h = ap (takeF (suc k)) (records-node ws at h) ∙ (unfold takeF in refl)
+
+  behind : (at k : ℕ) → appendF (kidsAt ws at) (takeF k (dropF (arityAt ws at) (recordsAt ws (at + 1)))) ≡ takeF (arityAt ws at + k) (recordsAt ws (at + 1))
+  unfolding kidsAt
+  behind at k = sym (takeF-add (arityAt ws at) k (recordsAt ws (at + 1)))
+
+  pub any-open : (p : Label → Bool) (at k : ℕ) → at < length ws → anyF p (takeF (suc k) (recordsAt ws at)) ≡ (p (labelAt ws at) || anyF p (takeF (arityAt ws at + k) (recordsAt ws (at + 1))))
+  any-open p at k h = ap (anyF p) (open-row at k h) ∙ any-node p (labelAt ws at) (kidsAt ws at) _ ∙ ap (λ (f : Trees). p (labelAt ws at) || anyF p f) (behind at k)
+
+  size-open : (at k : ℕ) → at < length ws → size (takeF (suc k) (recordsAt ws at)) ≡ suc (size (takeF (arityAt ws at + k) (recordsAt ws (at + 1))))
+  size-open at k h =
+      ap size (open-row at k h) ∙ size-node (labelAt ws at) (kidsAt ws at) (takeF k (dropF (arityAt ws at) (recordsAt ws (at + 1))))
+      ∙ ap suc (sym (size-append (kidsAt ws at) (takeF k (dropF (arityAt ws at) (recordsAt ws (at + 1))))) ∙ ap size (behind at k))
+
+  any-nothing : (p : Label → Bool) (at : ℕ) (f : Trees) → f ≡ end → anyF p f ≡ anyWord p ws at (size f)
+  unfolding anyF size flat anyWord
+  any-nothing p at f e = rw e
+
+  -- the k records at `at`, from what holds at the next place
+  words-step : (p : Label → Bool) (at : ℕ) →
+      (at < length ws → (k : ℕ) → anyF p (takeF k (recordsAt ws (at + 1))) ≡ anyWord p ws (at + 1) (size (takeF k (recordsAt ws (at + 1))))) →
+      (k : ℕ) → anyF p (takeF k (recordsAt ws at)) ≡ anyWord p ws at (size (takeF k (recordsAt ws at)))
+  words-step p at later zero = any-nothing p at (takeF 0 (recordsAt ws at)) (unfold takeF in refl)
+  words-step p at later (suc k) = by-end ws at here past
+    where
+      here : at < length ws → anyF p (takeF (suc k) (recordsAt ws at)) ≡ anyWord p ws at (size (takeF (suc k) (recordsAt ws at)))
+      here l =
+          let first : anyWord p ws at (suc (size (takeF (arityAt ws at + k) (recordsAt ws (at + 1))))) ≡ (p (labelAt ws at) || anyWord p ws (at + 1) (size (takeF (arityAt ws at + k) (recordsAt ws (at + 1))))) = unfold anyWord in refl in
+          any-open p at k l ∙ ap (p (labelAt ws at) ||_) (later l (arityAt ws at + k)) ∙ sym (ap (anyWord p ws at) (size-open at k l) ∙ first)
+
+      past : length ws ≤ at → anyF p (takeF (suc k) (recordsAt ws at)) ≡ anyWord p ws at (size (takeF (suc k) (recordsAt ws at)))
+      past l = any-nothing p at (takeF (suc k) (recordsAt ws at)) (ap (takeF (suc k)) (records-past ws at l) ∙ takeF-end (suc k))
+
+  words-within : (p : Label → Bool) (m at : ℕ) → length ws - at ≤ m → (k : ℕ) → anyF p (takeF k (recordsAt ws at)) ≡ anyWord p ws at (size (takeF k (recordsAt ws at)))
+  words-within p zero at h k = words-step p at (λ l. absurd (omega arith)) k
+  words-within p (suc m) at h k = words-step p at (λ l. words-within p m (at + 1) (omega arith)) k
+
+  pub any-words : (p : Label → Bool) (at k : ℕ) → anyF p (takeF k (recordsAt ws at)) ≡ anyWord p ws at (endOf ws at k - at)
+  unfolding endOf
+  any-words p at k =
+      let n : at + size (takeF k (recordsAt ws at)) - at ≡ size (takeF k (recordsAt ws at)) = omega arith in
+      let all : length ws - at ≤ length ws = omega arith in
+      words-within p (length ws) at all k ∙ ap (anyWord p ws at) (sym n)
+
+-- a loop over the words of the k records at `at`, which end at e: the next is that at i, and none before it meets the test
+pub record Searched (p : Label → Bool) (ws : List ℕ) (at k e i : ℕ) : Type 0 where
+  pub most : i ≤ e
+  pub same : anyF p (takeF k (recordsAt ws at)) ≡ anyWord p ws i (e - i)
+
+module _ (p : Label → Bool) (ws : List ℕ) (at k : ℕ) where
+  pub searched-start : {e : ℕ} → e ≡ endOf ws at k → at ≤ e → Searched p ws at k e at
+  searched-start {e} s h = record { most = h; same = any-words ws p at k ∙ ap (λ (n : ℕ). anyWord p ws at (n - at)) (sym s) }
+
+  next-word : {e i : ℕ} → Searched p ws at k e i → i < e → anyF p (takeF k (recordsAt ws at)) ≡ (p (labelAt ws i) || anyWord p ws (i + 1) (e - (i + 1)))
+  next-word {e} {i} a h =
+      let n : e - i ≡ suc (e - (i + 1)) = omega arith in
+      a .same ∙ ap (anyWord p ws i) n ∙ (unfold anyWord in refl)
+
+  pub searched-next : {e i : ℕ} → Searched p ws at k e i → i < e → p (labelAt ws i) ≡ false → Searched p ws at k e (i + 1)
+  searched-next {e} {i} a h t = record { most = omega arith; same = next-word a h ∙ rw t }
+
+  pub searched-hit : {e i : ℕ} → Searched p ws at k e i → i < e → p (labelAt ws i) ≡ true → anyF p (takeF k (recordsAt ws at)) ≡ true
+  searched-hit {e} {i} a h t = next-word a h ∙ rw t
+
+  pub searched-all : {e i : ℕ} → Searched p ws at k e i → e ≤ i → anyF p (takeF k (recordsAt ws at)) ≡ false
+  searched-all {e} {i} a h =
+      let n : e - i ≡ 0 = omega arith in
+      a .same ∙ ap (anyWord p ws i) n ∙ (unfold anyWord in refl)
+
+-- ---- every place of the words is a record at some depth
+
+record-append : (p : Test) (f g : Trees) → anyRecord p (appendF f g) ≡ (anyRecord p f || anyRecord p g)
+unfolding anyRecord appendF
+record-append p end g = refl
+record-append p (node l k r) g = ap ((p l k || anyRecord p k) ||_) (record-append p r g) ∙ sym (or-assoc (p l k || anyRecord p k) (anyRecord p r) (anyRecord p g))
+
+record-node : (p : Test) (l : Label) (kids rest : Trees) → anyRecord p (node l kids rest) ≡ (p l kids || anyRecord p (appendF kids rest))
+unfolding anyRecord
+record-node p l kids rest = or-assoc (p l kids) (anyRecord p kids) (anyRecord p rest) ∙ ap (p l kids ||_) (sym (record-append p kids rest))
+
+pub record-open : (p : Test) (ws : List ℕ) (i : ℕ) → i < length ws → anyRecord p (recordsAt ws i) ≡ (p (labelAt ws i) (kidsAt ws i) || anyRecord p (recordsAt ws (i + 1)))
+record-open p ws i h =
+    let whole : appendF (kidsAt ws i) (dropF (arityAt ws i) (recordsAt ws (i + 1))) ≡ recordsAt ws (i + 1) = unfold kidsAt in take-drop (arityAt ws i) (recordsAt ws (i + 1)) in
+    ap (anyRecord p) (records-node ws i h) ∙ record-node p (labelAt ws i) (kidsAt ws i) (dropF (arityAt ws i) (recordsAt ws (i + 1)))
+    ∙ ap (λ (f : Trees). p (labelAt ws i) (kidsAt ws i) || anyRecord p f) whole
+
+pub record-past : (p : Test) (ws : List ℕ) (i : ℕ) → length ws ≤ i → anyRecord p (recordsAt ws i) ≡ false
+record-past p ws i h = ap (anyRecord p) (records-past ws i h) ∙ (unfold anyRecord in refl)

@@ -1,0 +1,531 @@
+// What is asked of records as they are read, by flat loops. Reads the words, writes nothing. Every function takes every place: past the end of the words
+// stands the word 0, and of the k records at a place there are fewer where the words end.
+ghost use mathlib.Core.Path.{_≡_};
+ghost use mathlib.Core.Bool.{not};
+ghost use Prim.Native.Nat.{_+_, _<_, _≤_};
+ghost use lib.ListN.{getD};
+ghost use Rattle.records.specs.Forest.{end, takeF, anyF};
+ghost use Rattle.records.specs.Label.{is, readAt, _∶_};
+ghost use Rattle.records.specs.Place.{recordsAt, labelAt, arityAt, kidsAt};
+ghost use Rattle.rewriting.specs.Parts.{isEmpty, decorators, ofParameters, parametersOf, elementsOf, isConstructor, isDecoratedMember, isPlainKey, hasPlainKey, constructorDecorated, hasStatic, firstConstructor, idOf, ofElements, hasPrivateIn, isLive, isDecorated, isDecoratedClass, anyRecord, isRefused7};
+ghost use Rattle.inspect.specs.Row.{anyRow, before};
+ghost use Rattle.inspect.specs.Child.{Found, DecoratorsAt, SecondAt, optOf};
+ghost use Rattle.inspect.specs.Class.{hasDecorators, constructs, isDecoratedConstructor, isStatic, countCalled};
+ghost use Rattle.inspect.specs.Private.{privateIn, privateInElement};
+
+// No symbol: one more than the largest payload.
+pub const NONE: u32 = 67108864;
+
+// ---- the word at a place
+
+// The word at i, or 0 past the end.
+pub fn word_at(ws: &[u32], i: usize) -> u32
+    ensures { λ r. ⌜ r ≡ getD (now (ws .entry)) i 0 ⌝ }
+{
+    if i < ws.len() {
+        return ws[i];
+    }
+    0
+}
+
+pub fn kind_at(ws: &[u32], i: usize) -> u32
+    ensures { λ r. ⌜ r ≡ labelAt (now (ws .entry)) i .kind ⌝ }
+{
+    words::kind_of(word_at(ws, i))
+}
+
+pub fn payload_at(ws: &[u32], i: usize) -> u32
+    ensures { λ r. ⌜ (r ≡ labelAt (now (ws .entry)) i .payload) × (r < 67108864) ⌝ }
+{
+    words::payload_of(word_at(ws, i))
+}
+
+// The number of children of the record at i.
+pub fn children_at(ws: &[u32], i: usize) -> usize
+    ensures { λ r. ⌜ (r ≡ arityAt (now (ws .entry)) i) × (r < 67108869) ⌝ }
+{
+    words::child_count(word_at(ws, i)) as usize
+}
+
+// ---- children, by kind and by position; the end of the words stands for one that is missing
+
+// The first record of a kind among the k records at `at`.
+pub fn find(ws: &[u32], at: usize, k: usize, kind: u32) -> usize
+    ensures { λ r. ⌜ Found (now (ws .entry)) kind at k r ⌝ }
+{
+    let mut q = at;
+    let mut i = 0;
+    while i < k {
+        if ws.len() <= q {
+            return ws.len();
+        }
+        if kind_at(ws, q) == kind {
+            return q;
+        }
+        q = records::skip(ws, q, 1);
+        i += 1;
+    }
+    ws.len()
+}
+
+// The first child of a kind of the record at `at`.
+pub fn child(ws: &[u32], at: usize, kind: u32) -> usize
+    ensures { λ r. ⌜ Found (now (ws .entry)) kind (at + 1) (arityAt (now (ws .entry)) at) r ⌝ }
+{
+    let n = children_at(ws, at);
+    if n == 0 {
+        return ws.len();
+    }
+    find(ws, at + 1, n, kind)
+}
+
+// The 36 of the method, constructor or function at `at`.
+pub fn parameters(ws: &[u32], at: usize) -> usize
+    ensures { λ r. ⌜ (kidsAt (now (ws .entry)) r ≡ parametersOf (kidsAt (now (ws .entry)) at)) × Found (now (ws .entry)) 36 (at + 1) (arityAt (now (ws .entry)) at) r ⌝ }
+{
+    child(ws, at, 36)
+}
+
+// The 29 of the class at `at`.
+pub fn body(ws: &[u32], at: usize) -> usize
+    ensures { λ r. ⌜ (kidsAt (now (ws .entry)) r ≡ elementsOf (kidsAt (now (ws .entry)) at)) × Found (now (ws .entry)) 29 (at + 1) (arityAt (now (ws .entry)) at) r ⌝ }
+{
+    child(ws, at, 29)
+}
+
+// The 28 of the record at `at`, if it is the first child.
+pub fn decorators(ws: &[u32], at: usize) -> usize
+    ensures { λ r. ⌜ DecoratorsAt (now (ws .entry)) at r ⌝ }
+{
+    if children_at(ws, at) == 0 {
+        return ws.len();
+    }
+    if kind_at(ws, at + 1) != 28 {
+        return ws.len();
+    }
+    at + 1
+}
+
+// Has the record at `at` decorators of its own?
+pub fn decorated(ws: &[u32], at: usize) -> bool
+    ensures { λ r. ⌜ r ≡ not (isEmpty (decorators (kidsAt (now (ws .entry)) at))) ⌝ }
+{
+    let d = decorators(ws, at);
+    if children_at(ws, d) == 0 {
+        return false;
+    }
+    d + 1 < ws.len()
+}
+
+// The second child of the record at `at`: a member's key, a class's id.
+pub fn second_child(ws: &[u32], at: usize) -> usize
+    ensures { λ r. ⌜ SecondAt (now (ws .entry)) at r ⌝ }
+{
+    if children_at(ws, at) <= 1 {
+        return ws.len();
+    }
+    records::skip(ws, at + 1, 1)
+}
+
+// ---- members; `at` is the place of a 30, 31 or 32
+
+// Has one of the k parameters at `at` decorators?
+pub fn any_decorated(ws: &[u32], at: usize, k: usize) -> bool
+    ensures { λ r. ⌜ r ≡ anyRow hasDecorators (takeF k (recordsAt (now (ws .entry)) at)) ⌝ }
+{
+    let mut q = at;
+    let mut i = 0;
+    while i < k {
+        if ws.len() <= q {
+            return false;
+        }
+        if decorated(ws, q) {
+            return true;
+        }
+        q = records::skip(ws, q, 1);
+        i += 1;
+    }
+    false
+}
+
+// Has the method or constructor at `at` a decorated parameter?
+pub fn class_method_parameter_is_decorated(ws: &[u32], at: usize) -> bool
+    ensures { λ r. ⌜ r ≡ not (isEmpty (ofParameters 0 (parametersOf (kidsAt (now (ws .entry)) at)))) ⌝ }
+{
+    let p = parameters(ws, at);
+    any_decorated(ws, p + 1, children_at(ws, p))
+}
+
+// Is the word that of a constructor?
+pub fn is_constructor(w: u32) -> bool
+    ensures { λ r. ⌜ r ≡ isConstructor (readAt 0 w) ⌝ }
+{
+    if words::kind_of(w) != 30 {
+        return false;
+    }
+    words::payload_of(w) / 2 % 2 == 1
+}
+
+// Rule 3: is the element at `at` a member with decorators, its parameters' included?
+pub fn member_decorated(ws: &[u32], at: usize) -> bool
+    ensures { λ r. ⌜ r ≡ isDecoratedMember (labelAt (now (ws .entry)) at) (kidsAt (now (ws .entry)) at) ⌝ }
+{
+    let k = kind_at(ws, at);
+    if k == 31 {
+        return decorated(ws, at);
+    }
+    if k == 32 {
+        return decorated(ws, at);
+    }
+    if k != 30 {
+        return false;
+    }
+    method_decorated(ws, at)
+}
+
+// The same of a method or constructor.
+fn method_decorated(ws: &[u32], at: usize) -> bool
+    requires { ⌜ labelAt (now ws) at .kind ≡ 30 ⌝ }
+    ensures { λ r. ⌜ r ≡ isDecoratedMember (labelAt (now (ws .entry)) at) (kidsAt (now (ws .entry)) at) ⌝ }
+{
+    if is_constructor(word_at(ws, at)) {
+        return false;
+    }
+    if decorated(ws, at) {
+        return true;
+    }
+    class_method_parameter_is_decorated(ws, at)
+}
+
+// Rule 5: does a key of this kind give a name as it stands?
+pub fn is_plain_key(kind: u32) -> bool
+    ensures { λ r. ⌜ r ≡ isPlainKey (kind ∶ 0) ⌝ }
+{
+    if kind == 34 {
+        return true;
+    }
+    if kind == 35 {
+        return true;
+    }
+    if kind == 10 {
+        return true;
+    }
+    if kind == 11 {
+        return true;
+    }
+    if kind == 12 {
+        return true;
+    }
+    kind == 13
+}
+
+// Rule 5: does the key of the member at `at`?
+pub fn plain_key(ws: &[u32], at: usize) -> bool
+    ensures { λ r. ⌜ r ≡ hasPlainKey (kidsAt (now (ws .entry)) at) ⌝ }
+{
+    is_plain_key(kind_at(ws, second_child(ws, at)))
+}
+
+// ---- rows of elements: k of them, the first at `at`
+
+// Is the element at `at` a constructor with a decorated parameter?
+fn is_decorated_constructor(ws: &[u32], at: usize) -> bool
+    ensures { λ r. ⌜ r ≡ isDecoratedConstructor (labelAt (now (ws .entry)) at) (kidsAt (now (ws .entry)) at) ⌝ }
+{
+    if is_constructor(word_at(ws, at)) {
+        return class_method_parameter_is_decorated(ws, at);
+    }
+    false
+}
+
+// Rule 6: has any constructor a decorated parameter?
+pub fn constructor_decorated(ws: &[u32], at: usize, k: usize) -> bool
+    ensures { λ r. ⌜ r ≡ constructorDecorated (takeF k (recordsAt (now (ws .entry)) at)) ⌝ }
+{
+    let mut q = at;
+    let mut i = 0;
+    while i < k {
+        if ws.len() <= q {
+            return false;
+        }
+        if is_decorated_constructor(ws, q) {
+            return true;
+        }
+        q = records::skip(ws, q, 1);
+        i += 1;
+    }
+    false
+}
+
+// Is the word that of a static block or a static property?
+fn is_static(w: u32) -> bool
+    ensures { λ r. ⌜ r ≡ isStatic (readAt 0 w) end ⌝ }
+{
+    let k = words::kind_of(w);
+    if k == 33 {
+        return true;
+    }
+    if k != 31 {
+        return false;
+    }
+    words::payload_of(w) % 2 == 1
+}
+
+// Rule 8: is there a static property or a static block?
+pub fn has_static(ws: &[u32], at: usize, k: usize) -> bool
+    ensures { λ r. ⌜ r ≡ hasStatic (takeF k (recordsAt (now (ws .entry)) at)) ⌝ }
+{
+    let mut q = at;
+    let mut i = 0;
+    while i < k {
+        if ws.len() <= q {
+            return false;
+        }
+        if is_static(word_at(ws, q)) {
+            return true;
+        }
+        q = records::skip(ws, q, 1);
+        i += 1;
+    }
+    false
+}
+
+// The number of elements before the first constructor, or k where there is none.
+pub fn first_constructor(ws: &[u32], at: usize, k: usize) -> usize
+    ensures { λ r. ⌜ r ≡ before constructs k (recordsAt (now (ws .entry)) at) ⌝ }
+{
+    let mut q = at;
+    let mut i = 0;
+    while i < k {
+        if ws.len() <= q {
+            return k;
+        }
+        if is_constructor(word_at(ws, q)) {
+            return i;
+        }
+        q = records::skip(ws, q, 1);
+        i += 1;
+    }
+    k
+}
+
+// Rule 7: has the first constructor a decorated parameter?
+pub fn first_constructor_decorated(ws: &[u32], at: usize, k: usize) -> bool
+    ensures { λ r. ⌜ r ≡ not (isEmpty (firstConstructor (takeF k (recordsAt (now (ws .entry)) at)))) ⌝ }
+{
+    let j = first_constructor(ws, at, k);
+    if k <= j {
+        return false;
+    }
+    class_method_parameter_is_decorated(ws, records::skip(ws, at, j))
+}
+
+// The number of decorated members.
+pub fn call_count(ws: &[u32], at: usize, k: usize) -> usize
+    ensures { λ r. ⌜ r ≡ countCalled (takeF k (recordsAt (now (ws .entry)) at)) ⌝ }
+{
+    let mut q = at;
+    let mut i = 0;
+    let mut n = 0;
+    while i < k {
+        if ws.len() <= q {
+            return n;
+        }
+        if member_decorated(ws, q) {
+            n += 1;
+        }
+        q = records::skip(ws, q, 1);
+        i += 1;
+    }
+    n
+}
+
+// ---- classes; `at` is the place of the 26
+
+// The symbol of the id, or NONE.
+pub fn class_id(ws: &[u32], at: usize) -> u32
+    ensures { λ r. ⌜ (optOf r ≡ idOf (kidsAt (now (ws .entry)) at)) × (r ≤ 67108864) ⌝ }
+{
+    let q = second_child(ws, at);
+    if kind_at(ws, q) != 27 {
+        return NONE;
+    }
+    payload_at(ws, q)
+}
+
+// Rule 2: is the class of a statement live?
+pub fn is_live(ws: &[u32], at: usize) -> bool
+    ensures { λ r. ⌜ r ≡ isLive (takeF 1 (recordsAt (now (ws .entry)) at)) ⌝ }
+{
+    if ws.len() <= at {
+        return false;
+    }
+    payload_at(ws, at) / 2 % 2 != 1
+}
+
+// Rule 6: is the class decorated?
+pub fn check_class_has_decorated(ws: &[u32], at: usize) -> bool
+    ensures { λ r. ⌜ r ≡ isDecorated (kidsAt (now (ws .entry)) at) ⌝ }
+{
+    if decorated(ws, at) {
+        return true;
+    }
+    let b = body(ws, at);
+    constructor_decorated(ws, b + 1, children_at(ws, b))
+}
+
+// Has the class decorators, or its first constructor a decorated parameter?
+pub fn class_decorated_first(ws: &[u32], at: usize) -> bool
+    ensures { λ r. ⌜ r ≡ isDecoratedClass (kidsAt (now (ws .entry)) at) ⌝ }
+{
+    if decorated(ws, at) {
+        return true;
+    }
+    let b = body(ws, at);
+    first_constructor_decorated(ws, b + 1, children_at(ws, b))
+}
+
+// ---- rule 9: a private-in test, a 19, anywhere inside a decorator
+
+// Is there a word of a kind in the k records at `at`?
+pub fn contains(ws: &[u32], at: usize, k: usize, kind: u32) -> bool
+    ensures { λ r. ⌜ r ≡ anyF (is kind) (takeF k (recordsAt (now (ws .entry)) at)) ⌝ }
+{
+    let e = records::skip(ws, at, k);
+    let mut i = at;
+    while i < e {
+        if kind_at(ws, i) == kind {
+            return true;
+        }
+        i += 1;
+    }
+    false
+}
+
+// In the decorators of the record at `at`?
+fn private_in(ws: &[u32], at: usize) -> bool
+    ensures { λ r. ⌜ r ≡ anyF (is 19) (decorators (kidsAt (now (ws .entry)) at)) ⌝ }
+{
+    let d = decorators(ws, at);
+    contains(ws, d + 1, children_at(ws, d), 19)
+}
+
+// In the decorators of one of the k parameters at `at`?
+fn private_in_any(ws: &[u32], at: usize, k: usize) -> bool
+    ensures { λ r. ⌜ r ≡ anyRow privateIn (takeF k (recordsAt (now (ws .entry)) at)) ⌝ }
+{
+    let mut q = at;
+    let mut i = 0;
+    while i < k {
+        if ws.len() <= q {
+            return false;
+        }
+        if private_in(ws, q) {
+            return true;
+        }
+        q = records::skip(ws, q, 1);
+        i += 1;
+    }
+    false
+}
+
+// In those of a parameter of the method or constructor at `at`?
+fn private_in_parameters(ws: &[u32], at: usize) -> bool
+    ensures { λ r. ⌜ r ≡ anyF (is 19) (ofParameters 0 (parametersOf (kidsAt (now (ws .entry)) at))) ⌝ }
+{
+    let p = parameters(ws, at);
+    private_in_any(ws, p + 1, children_at(ws, p))
+}
+
+// In those of the method or constructor at `at` or of a parameter of it? A constructor has none of its own.
+fn private_in_method(ws: &[u32], at: usize) -> bool
+    requires { ⌜ labelAt (now ws) at .kind ≡ 30 ⌝ }
+    ensures { λ r. ⌜ r ≡ privateInElement (labelAt (now (ws .entry)) at) (kidsAt (now (ws .entry)) at) ⌝ }
+{
+    if is_constructor(word_at(ws, at)) {
+        return private_in_parameters(ws, at);
+    }
+    if private_in(ws, at) {
+        return true;
+    }
+    private_in_parameters(ws, at)
+}
+
+// In those of the element at `at` or of a parameter of it?
+fn private_in_element(ws: &[u32], at: usize) -> bool
+    ensures { λ r. ⌜ r ≡ privateInElement (labelAt (now (ws .entry)) at) (kidsAt (now (ws .entry)) at) ⌝ }
+{
+    let k = kind_at(ws, at);
+    if k == 30 {
+        return private_in_method(ws, at);
+    }
+    if k == 31 {
+        return private_in(ws, at);
+    }
+    if k == 32 {
+        return private_in(ws, at);
+    }
+    false
+}
+
+// In those of one of the k elements at `at`?
+fn private_in_elements(ws: &[u32], at: usize, k: usize) -> bool
+    ensures { λ r. ⌜ r ≡ anyF (is 19) (ofElements (takeF k (recordsAt (now (ws .entry)) at))) ⌝ }
+{
+    let mut q = at;
+    let mut i = 0;
+    while i < k {
+        if ws.len() <= q {
+            return false;
+        }
+        if private_in_element(ws, q) {
+            return true;
+        }
+        q = records::skip(ws, q, 1);
+        i += 1;
+    }
+    false
+}
+
+// In those of the class at `at`, of its elements or of their parameters?
+pub fn has_private_in_expression(ws: &[u32], at: usize) -> bool
+    ensures { λ r. ⌜ r ≡ hasPrivateIn (kidsAt (now (ws .entry)) at) ⌝ }
+{
+    if private_in(ws, at) {
+        return true;
+    }
+    let b = body(ws, at);
+    private_in_elements(ws, b + 1, children_at(ws, b))
+}
+
+// ---- refusal 7
+
+// Of the record at `at`.
+pub fn is_refused_7(ws: &[u32], at: usize) -> bool
+    ensures { λ r. ⌜ r ≡ isRefused7 (labelAt (now (ws .entry)) at) (kidsAt (now (ws .entry)) at) ⌝ }
+{
+    if kind_at(ws, at) != 4 {
+        return false;
+    }
+    if !is_live(ws, at + 1) {
+        return false;
+    }
+    if !check_class_has_decorated(ws, at + 1) {
+        return false;
+    }
+    !class_decorated_first(ws, at + 1)
+}
+
+// Of any record of the words.
+pub fn refused_7(ws: &[u32]) -> bool
+    ensures { λ r. ⌜ r ≡ anyRecord isRefused7 (recordsAt (now (ws .entry)) 0) ⌝ }
+{
+    let mut i = 0;
+    while i < ws.len() {
+        if is_refused_7(ws, i) {
+            return true;
+        }
+        i += 1;
+    }
+    false
+}

@@ -1,0 +1,318 @@
+-- The children of a member, a constructor and a parameter, as read and as visited: decorators, key, parameters, and what stands behind. Assumes nothing.
+use mathlib.Core.Path.{_≡_, refl, ap, sym, subst, _∙_}
+use mathlib.Core.Bool.{true, false}
+use mathlib.Core.List.{List, [], _∷_, _++_, append-nil}
+use Prim.Native.Nat.{ℕ, suc, _+_, _-_, _<_}
+use native.Mathlib.Omega.{arith}
+use lib.ListN.{length, replicate, length-replicate}
+use borrow.Author.Tests.{ne-eqb}
+use Rattle.words.specs.Table.{lookup}
+use Rattle.words.specs.Word.{bit1, bit2}
+use Rattle.records.specs.Forest.{end, node, takeF, dropF, appendF}
+use Rattle.records.specs.Label.{Label, Trees, repay, is}
+use Rattle.records.specs.Place.{recordsAt, labelAt, arityAt, kidsAt, endOf, end-add, end-one, records-first}
+use Rattle.grammar.specs.Grammar.{Slot, slot, Decorators, Parameters, Parameter, module′, methodDecorators, parameterDecorators, key, methodParameters, code, expression, element, parameterOf, table, row, rowOf, slots, slotsBelow, expressions}
+use Rattle.grammar.specs.WellFormed.{Allowed, Fits}
+use Rattle.grammar.specs.Rows.{soleKind, allowed-row}
+use Rattle.rewriting.specs.Parts.{roleOf, plain, tree, kidsOf, changeKids, decorators, undecorate, parametersOf, bareParameters, bareMethod, isMember, isPlainKey, firstIsPlain, hasPlainKey}
+use Rattle.rewriting.specs.Visit.{Around, State, Result, visit}
+use Rattle.walk_laws.specs.Rows.{visitAt, one-here, one-after, here-add, after-add, kids-visit, plain-one}
+use Rattle.walk_laws.specs.Slots.{Standing, standing-at, RowFits, kids-row, arity-slots, row-first, sole-kind}
+use Rattle.walk_laws.specs.Single.{Stays, expression-stays, row-nth}
+use Rattle.walk_laws.specs.Roles.{Sort, isMethod, isProperty, isAccessor, member-sort, is-kind, is-other, plain-28, plain-36, plain-37}
+
+-- ---- slots
+
+below-28 : (q : Slot) (p : ℕ) → slotsBelow q 28 p ≡ replicate p expression
+unfolding slotsBelow rowOf lookup table row slots expressions
+below-28 q p = append-nil (replicate p expression)
+
+pub below-29 : (q : Slot) (p : ℕ) → slotsBelow q 29 p ≡ replicate p element
+unfolding slotsBelow rowOf lookup table row slots
+below-29 q p = append-nil (replicate p element)
+
+below-36 : (q : Slot) (p : ℕ) → slotsBelow q 36 p ≡ replicate p (parameterOf (q .context))
+unfolding slotsBelow rowOf lookup table row slots
+below-36 q p = append-nil (replicate p (parameterOf (q .context)))
+
+below-30 : (q : Slot) (p : ℕ) → slotsBelow q 30 p ≡ methodDecorators (bit1 p) ∷ key ∷ methodParameters ∷ (replicate (bit2 p) code ++ [])
+unfolding slotsBelow rowOf lookup table row slots
+below-30 q p = refl
+
+below-31 : (q : Slot) (p : ℕ) → slotsBelow q 31 p ≡ slot Decorators 0 ∷ key ∷ (replicate (bit1 p) expression ++ [])
+unfolding slotsBelow rowOf lookup table row slots
+below-31 q p = refl
+
+below-32 : (q : Slot) (p : ℕ) → slotsBelow q 32 p ≡ slot Decorators 0 ∷ key ∷ []
+unfolding slotsBelow rowOf lookup table row slots
+below-32 q p = refl
+
+below-37 : (q : Slot) (p : ℕ) → slotsBelow q 37 p ≡ parameterDecorators (q .context) ∷ (replicate p expression ++ [])
+unfolding slotsBelow rowOf lookup table row slots
+below-37 q p = refl
+
+pub decorators-kind : (x : ℕ) (l : Label) → Allowed (slot Decorators x) l → l .kind ≡ 28
+unfolding soleKind lookup
+decorators-kind x l a = sole-kind (slot Decorators x) l a tt
+
+parameters-kind : (x : ℕ) (l : Label) → Allowed (slot Parameters x) l → l .kind ≡ 36
+unfolding soleKind lookup
+parameters-kind x l a = sole-kind (slot Parameters x) l a tt
+
+parameter-kind : (x : ℕ) (l : Label) → Allowed (slot Parameter x) l → l .kind ≡ 37
+unfolding soleKind lookup
+parameter-kind x l a = sole-kind (slot Parameter x) l a tt
+
+-- a key is no 36
+pub key-other : (l : Label) → Allowed key l → is 36 l ≡ false
+unfolding is
+key-other l a = ne-eqb (l .kind) 36 λ e.
+    let c : rowOf 36 .category ≡ 4 = ap (λ (k : ℕ). rowOf k .category) (sym e) ∙ allowed-row key (l .kind) (l .payload) (a .grammar) .0 in
+    let n : rowOf 36 .category ≡ 10 = unfold rowOf lookup table row in refl in
+    omega (arith, c, n)
+
+-- ---- as read
+
+-- the places of the key and of the 36 of the element at `at`
+unfoldable pub keyAt : List ℕ → ℕ → ℕ
+keyAt ws at = endOf ws (at + 1) 1
+
+unfoldable pub parametersAt : List ℕ → ℕ → ℕ
+parametersAt ws at = endOf ws (keyAt ws at) 1
+
+-- the first child is a 28
+pub record Marked (ws : List ℕ) (at : ℕ) : Type 0 where
+  pub place : at + 1 < length ws
+  pub kind : labelAt ws (at + 1) .kind ≡ 28
+  pub count : arityAt ws at ≡ 1 + (arityAt ws at - 1)
+
+-- the second child is a key
+pub record Keyed (ws : List ℕ) (at : ℕ) : Type 0 where
+  pub marked : Marked ws at
+  pub place : keyAt ws at < length ws
+  pub slot : Allowed key (labelAt ws (keyAt ws at))
+  pub count : arityAt ws at - 1 ≡ 1 + (arityAt ws at - 2)
+
+-- the third child is a 36
+pub record Called (ws : List ℕ) (at : ℕ) : Type 0 where
+  pub keyed : Keyed ws at
+  pub place : parametersAt ws at < length ws
+  pub kind : labelAt ws (parametersAt ws at) .kind ≡ 36
+  pub count : arityAt ws at - 2 ≡ 1 + (arityAt ws at - 3)
+
+module _ (ws : List ℕ) (at : ℕ) where
+  row-of : (rs : List Slot) → RowFits ws (at + 1) (arityAt ws at) rs → arityAt ws at ≡ length rs → RowFits ws (at + 1) (length rs) rs
+  row-of rs f e = subst (λ (n : ℕ). RowFits ws (at + 1) n rs) e f
+
+  marked : (x : ℕ) (rs : List Slot) → RowFits ws (at + 1) (arityAt ws at) (slot Decorators x ∷ rs) → arityAt ws at ≡ length (slot Decorators x ∷ rs) → Marked ws at
+  marked x rs f e =
+      let g = row-first ws (at + 1) (length rs) (slot Decorators x) rs (row-of (slot Decorators x ∷ rs) f e) in
+      record { place = g .0; kind = decorators-kind x (labelAt ws (at + 1)) (g .1); count = omega arith }
+
+  keyed : (x : ℕ) (rs : List Slot) → RowFits ws (at + 1) (arityAt ws at) (slot Decorators x ∷ key ∷ rs) → arityAt ws at ≡ length (slot Decorators x ∷ key ∷ rs) → Keyed ws at
+  unfolding keyAt
+  keyed x rs f e =
+      let g = row-first ws (at + 1) (suc (length rs)) (slot Decorators x) (key ∷ rs) (row-of (slot Decorators x ∷ key ∷ rs) f e) in
+      let i = row-first ws (endOf ws (at + 1) 1) (length rs) key rs (g .2) in
+      record { marked = marked x (key ∷ rs) f e; place = i .0; slot = i .1; count = omega arith }
+
+  called : (x : ℕ) (rs : List Slot) → RowFits ws (at + 1) (arityAt ws at) (slot Decorators x ∷ key ∷ methodParameters ∷ rs) →
+      arityAt ws at ≡ length (slot Decorators x ∷ key ∷ methodParameters ∷ rs) → Called ws at
+  unfolding keyAt parametersAt
+  called x rs f e =
+      let g = row-first ws (at + 1) (suc (suc (length rs))) (slot Decorators x) (key ∷ methodParameters ∷ rs) (row-of (slot Decorators x ∷ key ∷ methodParameters ∷ rs) f e) in
+      let i = row-first ws (endOf ws (at + 1) 1) (suc (length rs)) key (methodParameters ∷ rs) (g .2) in
+      let j = row-first ws (endOf ws (endOf ws (at + 1) 1) 1) (length rs) methodParameters rs (i .2) in
+      record { keyed = keyed x (methodParameters ∷ rs) f e; place = j .0; kind = parameters-kind 0 (labelAt ws (endOf ws (endOf ws (at + 1) 1) 1)) (j .1); count = omega arith }
+
+  -- where the record ends
+  module _ (h : at < length ws) where
+    pub marked-end : Marked ws at → endOf ws at 1 ≡ endOf ws (endOf ws (at + 1) 1) (arityAt ws at - 1)
+    marked-end m = end-one ws at h ∙ ap (endOf ws (at + 1)) (m .count) ∙ end-add ws (at + 1) 1 (arityAt ws at - 1)
+
+    keyed-end : Keyed ws at → endOf ws at 1 ≡ endOf ws (endOf ws (endOf ws (at + 1) 1) 1) (arityAt ws at - 2)
+    keyed-end y = marked-end (y .marked) ∙ ap (endOf ws (endOf ws (at + 1) 1)) (y .count) ∙ end-add ws (endOf ws (at + 1) 1) 1 (arityAt ws at - 2)
+
+    pub called-end : Called ws at → endOf ws at 1 ≡ endOf ws (endOf ws (endOf ws (endOf ws (at + 1) 1) 1) 1) (arityAt ws at - 3)
+    called-end c = keyed-end (c .keyed) ∙ ap (endOf ws (endOf ws (endOf ws (at + 1) 1) 1)) (c .count) ∙ end-add ws (endOf ws (endOf ws (at + 1) 1) 1) 1 (arityAt ws at - 3)
+
+  module _ (whole : Fits (module′ ∷ []) (recordsAt ws 0)) (h : at < length ws) where
+    here : Standing ws at
+    here = standing-at ws (module′ ∷ []) whole at h
+
+    slots-kind : (k : ℕ) → labelAt ws at .kind ≡ k → slotsBelow (here .slot) (labelAt ws at .kind) (labelAt ws at .payload) ≡ slotsBelow (here .slot) k (labelAt ws at .payload)
+    slots-kind k e = ap (λ (n : ℕ). slotsBelow (here .slot) n (labelAt ws at .payload)) e
+
+    row-kind : (rs : List Slot) → slotsBelow (here .slot) (labelAt ws at .kind) (labelAt ws at .payload) ≡ rs → RowFits ws (at + 1) (arityAt ws at) rs × (arityAt ws at ≡ length rs)
+    row-kind rs e = (subst (RowFits ws (at + 1) (arityAt ws at)) e (kids-row ws at here), arity-slots ws at here ∙ ap length e)
+
+    -- the j-th child of a record whose children stand in one slot each
+    nth : (j : ℕ) (q : Slot) → slotsBelow (here .slot) (labelAt ws at .kind) (labelAt ws at .payload) ≡ replicate (labelAt ws at .payload) q → j < arityAt ws at →
+        (endOf ws (at + 1) j < length ws) × Allowed q (labelAt ws (endOf ws (at + 1) j))
+    nth j q e b =
+        let r = row-kind _ e in
+        let n : arityAt ws at ≡ labelAt ws at .payload = r .1 ∙ length-replicate (labelAt ws at .payload) q in
+        row-nth ws (at + 1) (arityAt ws at) j q (subst (λ (m : ℕ). RowFits ws (at + 1) (arityAt ws at) (replicate m q)) (sym n) (r .0)) b
+
+    -- of a 28, a 29 and a 36
+    pub decorators-nth : (j : ℕ) → labelAt ws at .kind ≡ 28 → j < arityAt ws at → (endOf ws (at + 1) j < length ws) × Allowed expression (labelAt ws (endOf ws (at + 1) j))
+    decorators-nth j e = nth j expression (slots-kind 28 e ∙ below-28 (here .slot) (labelAt ws at .payload))
+
+    pub elements-nth : (j : ℕ) → labelAt ws at .kind ≡ 29 → j < arityAt ws at → (endOf ws (at + 1) j < length ws) × Allowed element (labelAt ws (endOf ws (at + 1) j))
+    elements-nth j e = nth j element (slots-kind 29 e ∙ below-29 (here .slot) (labelAt ws at .payload))
+
+    pub parameters-nth : (j : ℕ) → labelAt ws at .kind ≡ 36 → j < arityAt ws at → (endOf ws (at + 1) j < length ws) × (labelAt ws (endOf ws (at + 1) j) .kind ≡ 37)
+    parameters-nth j e b =
+        let x : ℕ = here .slot .context in
+        let g = nth j (parameterOf x) (slots-kind 36 e ∙ below-36 (here .slot) (labelAt ws at .payload)) b in
+        (g .0, parameter-kind x (labelAt ws (endOf ws (at + 1) j)) (g .1))
+
+    pub parameter-marked : labelAt ws at .kind ≡ 37 → Marked ws at
+    parameter-marked e =
+        let r = row-kind _ (slots-kind 37 e ∙ below-37 (here .slot) (labelAt ws at .payload)) in
+        marked _ _ (r .0) (r .1)
+
+    pub method-called : labelAt ws at .kind ≡ 30 → Called ws at
+    method-called e =
+        let r = row-kind _ (slots-kind 30 e ∙ below-30 (here .slot) (labelAt ws at .payload)) in
+        called _ _ (r .0) (r .1)
+
+    pub member-keyed : isMember (labelAt ws at) ≡ true → Keyed ws at
+    member-keyed m = go (member-sort (labelAt ws at) m)
+      where
+        go : Sort (labelAt ws at) → Keyed ws at
+        go (isMethod e r) = method-called e .keyed
+        go (isProperty e r) = let r = row-kind _ (slots-kind 31 e ∙ below-31 (here .slot) (labelAt ws at .payload)) in keyed _ _ (r .0) (r .1)
+        go (isAccessor e r) = let r = row-kind _ (slots-kind 32 e ∙ below-32 (here .slot) (labelAt ws at .payload)) in keyed _ _ (r .0) (r .1)
+
+-- does the key give a name as it stands
+pub key-plain : (ws : List ℕ) (at : ℕ) → Keyed ws at → hasPlainKey (kidsAt ws at) ≡ isPlainKey (labelAt ws (keyAt ws at))
+unfolding hasPlainKey firstIsPlain dropF kidsAt keyAt
+key-plain ws at y =
+    let n : arityAt ws at ≡ suc (suc (arityAt ws at - 2)) = omega (arith, y .count, y .marked .count) in
+    ap (λ (m : ℕ). hasPlainKey (takeF m (recordsAt ws (at + 1)))) n
+    ∙ ap hasPlainKey (records-first ws (at + 1) (suc (arityAt ws at - 2)) (y .marked .place))
+    ∙ ap firstIsPlain (records-first ws (endOf ws (at + 1) 1) (arityAt ws at - 2) (y .place))
+
+-- ---- parts of children that begin with a 28
+
+module _ (l : Label) (k r : Trees) (e : l .kind ≡ 28) where
+  decorators-first : decorators (node l k r) ≡ k
+  unfolding decorators
+  decorators-first = rw (is-kind l 28 e)
+
+  undecorate-first : undecorate (node l k r) ≡ node (repay l 0) end r
+  unfolding undecorate
+  undecorate-first = rw (is-kind l 28 e)
+
+-- a key stands between the 28 and the 36
+module _ (d c p : Label) (x y z w : Trees) (e : d .kind ≡ 28) (n : is 36 c ≡ false) (h : p .kind ≡ 36) where
+  parameters-third : parametersOf (node d x (node c y (node p z w))) ≡ z
+  unfolding parametersOf kidsOf
+  parameters-third = rw (is-other d 28 36 e refl, n, is-kind p 36 h)
+
+  bare-third : bareMethod (node d x (node c y (node p z w))) ≡ node (repay d 0) end (node c y (node p (bareParameters z) w))
+  unfolding bareMethod changeKids
+  bare-third = rw (is-other d 28 36 e refl, n, is-kind p 36 h) (undecorate-first d x (node c y (node p (bareParameters z) w)) e)
+
+-- ---- as visited
+
+-- the states in front of the key and of the 36
+module _ (ws : List ℕ) (around : Around) (at : ℕ) (s : State) where
+  unfoldable pub atKey : State
+  atKey = visitAt ws (at + 1) 1 around s .after
+
+  unfoldable pub atParameters : State
+  atParameters = visitAt ws (keyAt ws at) 1 around atKey .after
+
+module _ (ws : List ℕ) (around : Around) where
+  -- one record in front of others
+  pub here-first : (at k : ℕ) (s : State) (l : Label) (x : Trees) → visitAt ws at 1 around s .here ≡ tree l x →
+      visitAt ws at (1 + k) around s .here ≡ node l x (visitAt ws (endOf ws at 1) k around (visitAt ws at 1 around s .after) .here)
+  here-first at k s l x e = here-add ws around at 1 k s ∙ ap (λ (f : Trees). appendF f (visitAt ws (endOf ws at 1) k around (visitAt ws at 1 around s .after) .here)) e ∙ (unfold tree appendF in refl)
+
+  pub plain-here : (at : ℕ) (s : State) → at < length ws → roleOf (labelAt ws at) ≡ plain →
+      visitAt ws at 1 around s .here ≡ tree (labelAt ws at) (visit around (kidsAt ws at) s .here)
+  plain-here at s h e = one-here ws around at s h ∙ ap (λ (r : Result). r .here) (plain-one around (labelAt ws at) (kidsAt ws at) s e)
+
+  pub plain-after : (at : ℕ) (s : State) → at < length ws → roleOf (labelAt ws at) ≡ plain →
+      visitAt ws at 1 around s .after ≡ visitAt ws (at + 1) (arityAt ws at) around s .after
+  plain-after at s h e =
+      one-after ws around at s h ∙ ap (λ (r : Result). r .after) (plain-one around (labelAt ws at) (kidsAt ws at) s e) ∙ ap (λ (r : Result). r .after) (sym (kids-visit ws around at s))
+
+  module _ (at : ℕ) (s : State) where
+    module _ (m : Marked ws at) where
+      -- the states behind the 28 and behind a parameter
+      pub decorators-after : visitAt ws (at + 1) 1 around s .after ≡ visitAt ws (at + 2) (arityAt ws (at + 1)) around s .after
+      decorators-after =
+          let two : at + 1 + 1 ≡ at + 2 = omega arith in
+          plain-after (at + 1) s (m .place) (plain-28 _ (m .kind)) ∙ ap (λ (p : ℕ). visitAt ws p (arityAt ws (at + 1)) around s .after) two
+
+      pub parameter-after : at < length ws → labelAt ws at .kind ≡ 37 →
+          visitAt ws at 1 around s .after ≡ visitAt ws (endOf ws (at + 1) 1) (arityAt ws at - 1) around (visitAt ws (at + 1) 1 around s .after) .after
+      parameter-after h e =
+          plain-after at s h (plain-37 _ e)
+          ∙ ap (λ (n : ℕ). visitAt ws (at + 1) n around s .after) (m .count)
+          ∙ after-add ws around (at + 1) 1 (arityAt ws at - 1) s
+
+      marked-here : visit around (kidsAt ws at) s .here ≡
+          node (labelAt ws (at + 1)) (visit around (kidsAt ws (at + 1)) s .here) (visitAt ws (keyAt ws at) (arityAt ws at - 1) around (atKey ws around at s) .here)
+      unfolding keyAt atKey
+      marked-here =
+          ap (λ (r : Result). r .here) (sym (kids-visit ws around at s))
+          ∙ ap (λ (n : ℕ). visitAt ws (at + 1) n around s .here) (m .count)
+          ∙ here-first (at + 1) (arityAt ws at - 1) s _ _ (plain-here (at + 1) s (m .place) (plain-28 _ (m .kind)))
+
+      pub marked-decorators : decorators (visit around (kidsAt ws at) s .here) ≡ visitAt ws (at + 2) (arityAt ws (at + 1)) around s .here
+      marked-decorators =
+          let two : at + 1 + 1 ≡ at + 2 = omega arith in
+          ap decorators marked-here
+          ∙ decorators-first _ _ _ (m .kind)
+          ∙ ap (λ (r : Result). r .here) (sym (kids-visit ws around (at + 1) s))
+          ∙ ap (λ (p : ℕ). visitAt ws p (arityAt ws (at + 1)) around s .here) two
+
+      pub marked-bare : undecorate (visit around (kidsAt ws at) s .here) ≡ node (repay (labelAt ws (at + 1)) 0) end (visitAt ws (keyAt ws at) (arityAt ws at - 1) around (atKey ws around at s) .here)
+      marked-bare = ap undecorate marked-here ∙ undecorate-first _ _ _ (m .kind)
+
+    module _ (y : Keyed ws at) where
+      pub key-stays : Stays (labelAt ws (keyAt ws at)) (visitAt ws (keyAt ws at) 1 around (atKey ws around at s) .here)
+      key-stays = expression-stays ws (keyAt ws at) key around (atKey ws around at s) (y .place) refl (y .slot)
+
+      pub keyed-here : visitAt ws (keyAt ws at) (arityAt ws at - 1) around (atKey ws around at s) .here ≡ node (labelAt ws (keyAt ws at)) (key-stays .below) (visitAt ws (parametersAt ws at) (arityAt ws at - 2) around (atParameters ws around at s) .here)
+      unfolding parametersAt atParameters
+      keyed-here = ap (λ (n : ℕ). visitAt ws (keyAt ws at) n around (atKey ws around at s) .here) (y .count) ∙ here-first (keyAt ws at) (arityAt ws at - 2) (atKey ws around at s) _ _ (key-stays .whole)
+
+    module _ (c : Called ws at) where
+      called-third : visitAt ws (parametersAt ws at) (arityAt ws at - 2) around (atParameters ws around at s) .here ≡
+          node (labelAt ws (parametersAt ws at)) (visit around (kidsAt ws (parametersAt ws at)) (atParameters ws around at s) .here)
+          (visitAt ws (endOf ws (parametersAt ws at) 1) (arityAt ws at - 3) around (visitAt ws (parametersAt ws at) 1 around (atParameters ws around at s) .after) .here)
+      called-third =
+          ap (λ (n : ℕ). visitAt ws (parametersAt ws at) n around (atParameters ws around at s) .here) (c .count)
+          ∙ here-first (parametersAt ws at) (arityAt ws at - 3) (atParameters ws around at s) _ _ (plain-here (parametersAt ws at) (atParameters ws around at s) (c .place) (plain-36 _ (c .kind)))
+
+      called-here : visit around (kidsAt ws at) s .here ≡
+          node (labelAt ws (at + 1)) (visit around (kidsAt ws (at + 1)) s .here) (
+          node (labelAt ws (keyAt ws at)) (key-stays (c .keyed) .below) (
+          node (labelAt ws (parametersAt ws at)) (visit around (kidsAt ws (parametersAt ws at)) (atParameters ws around at s) .here)
+          (visitAt ws (endOf ws (parametersAt ws at) 1) (arityAt ws at - 3) around (visitAt ws (parametersAt ws at) 1 around (atParameters ws around at s) .after) .here)))
+      called-here =
+          marked-here (c .keyed .marked)
+          ∙ ap (node (labelAt ws (at + 1)) (visit around (kidsAt ws (at + 1)) s .here)) (keyed-here (c .keyed) ∙ ap (node (labelAt ws (keyAt ws at)) (key-stays (c .keyed) .below)) called-third)
+
+      -- the parameters of a method or constructor
+      pub called-parameters : parametersOf (visit around (kidsAt ws at) s .here) ≡ visit around (kidsAt ws (endOf ws (at + 1) 2)) (visitAt ws (at + 1) 2 around s .after) .here
+      unfolding keyAt atKey parametersAt atParameters
+      called-parameters =
+          ap parametersOf called-here
+          ∙ parameters-third _ _ _ _ _ _ _ (c .keyed .marked .kind) (key-other (labelAt ws (keyAt ws at)) (c .keyed .slot)) (c .kind)
+          ∙ ap (λ (p : ℕ). visit around (kidsAt ws p) (atParameters ws around at s) .here) (sym (end-add ws (at + 1) 1 1))
+          ∙ ap (λ (t : State). visit around (kidsAt ws (endOf ws (at + 1) 2)) t .here) (sym (after-add ws around (at + 1) 1 1 s))
+
+      pub called-bare : bareMethod (visit around (kidsAt ws at) s .here) ≡
+          node (repay (labelAt ws (at + 1)) 0) end (
+          node (labelAt ws (keyAt ws at)) (key-stays (c .keyed) .below) (
+          node (labelAt ws (parametersAt ws at)) (bareParameters (visit around (kidsAt ws (parametersAt ws at)) (atParameters ws around at s) .here))
+          (visitAt ws (endOf ws (parametersAt ws at) 1) (arityAt ws at - 3) around (visitAt ws (parametersAt ws at) 1 around (atParameters ws around at s) .after) .here)))
+      called-bare =
+          ap bareMethod called-here
+          ∙ bare-third _ _ _ _ _ _ _ (c .keyed .marked .kind) (key-other (labelAt ws (keyAt ws at)) (c .keyed .slot)) (c .kind)

@@ -1,0 +1,197 @@
+-- Records by kind at a place of an accepted module: the role of a kind, a class statement's class, the number of a record's children. Assumes nothing.
+use mathlib.Core.Path.{_≡_, refl, ap, sym, subst, _∙_}
+use mathlib.Core.Bool.{Bool, true, false, _&&_, _||_, not, cond}
+use mathlib.Core.Option.{Option, none, some}
+use mathlib.Core.List.{List, [], _∷_, _++_}
+use Prim.Native.Nat.{ℕ, zero, suc, _+_, _<_, _≤_}
+use native.Mathlib.Omega.{arith}
+use lib.Dec.{eqb, T}
+use borrow.Author.Tests.{eqb-true, eq-eqb, ne-eqb}
+use lib.ListN.{length, replicate}
+use Rattle.words.specs.Table.{lookup}
+use Rattle.words.specs.Word.{bit0, bit1, bit2, children, childTable}
+use Rattle.records.specs.Forest.{Forest, end, node, takeF, countF}
+use Rattle.records.specs.Label.{Label, Trees, is, bit, _∶_, arity}
+use Rattle.records.specs.Place.{recordsAt, labelAt, arityAt, kidsAt, endOf, record-one}
+use Rattle.grammar.specs.Grammar.{Slot, slot, Run, _of_, rowOf, table, row, slots, slotsBelow, module′, classUnder, Class, Element}
+use Rattle.grammar.specs.WellFormed.{Allowed, Fits}
+use Rattle.grammar.specs.Rows.{length-below, allowed-row, soleKind}
+use Rattle.rewriting.specs.Parts.{Role, module′ as moduleRole, list, statement, expression, method, constructor, plain, field, roleOf, tree, isMember, isDecoratedMember, hasPlainKey, isConstructor, isLive, classKids, idOf}
+use Rattle.rewriting.specs.Visit.{Around, State, visit, visitOne}
+use Rattle.walk_laws.specs.Rows.{visitAt, plain-one, one-here, kids-visit}
+use Rattle.walk_laws.specs.Slots.{Standing, standing-at, RowFits, kids-row, arity-slots, row-first, sole-kind, fits-count}
+use Rattle.walk_laws.specs.After.{memberAfter, after-plain, after-list, after-module, after-constructor, after-method, after-field}
+
+member-none : (b p : Bool) (id : Option ℕ) (s : State) → b ≡ false → memberAfter b p id s ≡ s
+unfolding memberAfter
+member-none b p id s e = rw e
+
+-- ---- roles
+
+module _ (l : Label) where
+  pub role-4 : l .kind ≡ 4 → roleOf l ≡ statement
+  unfolding roleOf lookup
+  role-4 e = rw e
+
+  pub role-20 : l .kind ≡ 20 → roleOf l ≡ expression
+  unfolding roleOf lookup
+  role-20 e = rw e
+
+  pub role-26 : l .kind ≡ 26 → roleOf l ≡ plain
+  unfolding roleOf lookup
+  role-26 e = rw e
+
+  pub role-28 : l .kind ≡ 28 → roleOf l ≡ plain
+  unfolding roleOf lookup
+  role-28 e = rw e
+
+  role-30 : l .kind ≡ 30 → roleOf l ≡ cond (bit bit1 l) constructor method
+  unfolding roleOf lookup
+  role-30 e = rw e
+
+  role-31 : l .kind ≡ 31 → roleOf l ≡ field (14 ∶ 0)
+  unfolding roleOf lookup
+  role-31 e = rw e
+
+  role-32 : l .kind ≡ 32 → roleOf l ≡ field (13 ∶ 0)
+  unfolding roleOf lookup
+  role-32 e = rw e
+
+  -- a kind whose records do nothing of their own to the state
+  pub after-rest : (around : Around) (k : Trees) (s : State) → (l .kind ≡ 4 → ⊥) → (l .kind ≡ 20 → ⊥) → (l .kind ≡ 30 → ⊥) → (l .kind ≡ 31 → ⊥) → (l .kind ≡ 32 → ⊥) →
+      visitOne around l k s .after ≡ visit around k s .after
+  after-rest around k s a b c d e =
+      go (eqb (l .kind) 1) (eqb (l .kind) 3) (eqb (l .kind) 33) (eqb (l .kind) 39)
+      (unfold roleOf lookup in rw (ne-eqb _ 4 a, ne-eqb _ 20 b, ne-eqb _ 30 c, ne-eqb _ 31 d, ne-eqb _ 32 e))
+    where
+      go : (b1 b3 b33 b39 : Bool) → roleOf l ≡ cond b1 moduleRole (cond b3 list (cond b33 list (cond b39 list plain))) → visitOne around l k s .after ≡ visit around k s .after
+      go true b3 b33 b39 e = after-module around l k s e
+      go false true b33 b39 e = after-list around l k s e
+      go false false true b39 e = after-list around l k s e
+      go false false false true e = after-list around l k s e
+      go false false false false e = after-plain around l k s e
+
+  not-member : l .kind ≡ 30 → bit bit1 l ≡ true → isMember l ≡ false
+  unfolding isMember is
+  not-member e t =
+      let a : eqb (l .kind) 30 ≡ true = eq-eqb _ 30 e in
+      let b : eqb (l .kind) 31 ≡ false = rw e in
+      let c : eqb (l .kind) 32 ≡ false = rw e in
+      rw (a, b, c, t)
+
+  constructor-none : (k : Trees) → l .kind ≡ 30 → bit bit1 l ≡ true → isDecoratedMember l k ≡ false
+  unfolding isDecoratedMember
+  constructor-none k e t = rw (not-member e t)
+
+  -- a method, constructor, property or accessor
+  pub after-30 : (around : Around) (k : Trees) (s : State) → 2 ≤ countF k → l .kind ≡ 30 →
+      visitOne around l k s .after ≡ memberAfter (around .live && isDecoratedMember l k) (hasPlainKey k) (around .id) (visit around k s .after)
+  after-30 around k s h e = go (bit bit1 l) refl
+    where
+      none : (b : Bool) → (b && false) ≡ false
+      none true = refl
+      none false = refl
+
+      go : (b : Bool) → bit bit1 l ≡ b → visitOne around l k s .after ≡ memberAfter (around .live && isDecoratedMember l k) (hasPlainKey k) (around .id) (visit around k s .after)
+      go true t =
+          let r : roleOf l ≡ constructor = role-30 e ∙ (rw t) in
+          let m : isDecoratedMember l k ≡ false = constructor-none k e t in
+          after-constructor around l k s r ∙ sym (member-none (around .live && isDecoratedMember l k) (hasPlainKey k) (around .id) (visit around k s .after) (ap (around .live &&_) m ∙ none (around .live)))
+      go false t = after-method around l k s h (role-30 e ∙ (rw t))
+
+  pub after-31 : (around : Around) (k : Trees) (s : State) → 2 ≤ countF k → l .kind ≡ 31 →
+      visitOne around l k s .after ≡ memberAfter (around .live && isDecoratedMember l k) (hasPlainKey k) (around .id) (visit around k s .after)
+  after-31 around k s h e = after-field around l k s h (14 ∶ 0) (role-31 e)
+
+  pub after-32 : (around : Around) (k : Trees) (s : State) → 2 ≤ countF k → l .kind ≡ 32 →
+      visitOne around l k s .after ≡ memberAfter (around .live && isDecoratedMember l k) (hasPlainKey k) (around .id) (visit around k s .after)
+  after-32 around k s h e = after-field around l k s h (13 ∶ 0) (role-32 e)
+
+-- ---- at a place
+
+-- the kinds of members and constructors
+unfoldable pub isElementKind : ℕ → Bool
+isElementKind k = eqb k 30 || eqb k 31 || eqb k 32
+
+or-cases : (a b c : Bool) → (a || b || c) ≡ true → (P : Type 0) → (a ≡ true → P) → (b ≡ true → P) → (c ≡ true → P) → P
+or-cases true b c e P f g h = f refl
+or-cases false true c e P f g h = g refl
+or-cases false false true e P f g h = h refl
+or-cases false false false e P f g h = let z : _≡_ {A = ℕ} 0 1 = cc in absurd (omega arith)
+
+two-30 : (p : ℕ) → 2 ≤ children 30 p
+unfolding children childTable lookup
+two-30 p = omega arith
+
+two-31 : (p : ℕ) → 2 ≤ children 31 p
+unfolding children childTable lookup
+two-31 p = omega arith
+
+two-32 : (p : ℕ) → 2 ≤ children 32 p
+unfolding children childTable lookup
+two-32 p = omega arith
+
+two-children : (k p : ℕ) → isElementKind k ≡ true → 2 ≤ children k p
+unfolding isElementKind
+two-children k p e =
+    or-cases (eqb k 30) (eqb k 31) (eqb k 32) e (2 ≤ children k p)
+    (λ t. rw (eqb-true k 30 t) (two-30 p)) (λ t. rw (eqb-true k 31 t) (two-31 p)) (λ t. rw (eqb-true k 32 t) (two-32 p))
+
+after-element : (l : Label) (around : Around) (k : Trees) (s : State) → 2 ≤ countF k → isElementKind (l .kind) ≡ true →
+    visitOne around l k s .after ≡ memberAfter (around .live && isDecoratedMember l k) (hasPlainKey k) (around .id) (visit around k s .after)
+unfolding isElementKind
+after-element l around k s h e =
+    or-cases (eqb (l .kind) 30) (eqb (l .kind) 31) (eqb (l .kind) 32) e _
+    (λ t. after-30 l around k s h (eqb-true _ 30 t)) (λ t. after-31 l around k s h (eqb-true _ 31 t)) (λ t. after-32 l around k s h (eqb-true _ 32 t))
+
+below-4 : (q : Slot) (p : ℕ) → slotsBelow q 4 p ≡ classUnder p ∷ []
+unfolding slotsBelow slots rowOf table lookup row
+below-4 q p = refl
+
+module _ (ws : List ℕ) (whole : Fits (module′ ∷ []) (recordsAt ws 0)) (at : ℕ) (h : at < length ws) where
+  standing : Standing ws at
+  standing = standing-at ws (module′ ∷ []) whole at h
+
+  -- a record has all the children that its word asks for
+  pub kids-count : countF (kidsAt ws at) ≡ arityAt ws at
+  kids-count = fits-count _ _ (standing .kids) ∙ sym (arity-slots ws at standing)
+
+  -- the state behind a method, constructor, property or accessor
+  pub element-after : (around : Around) (s : State) → isElementKind (labelAt ws at .kind) ≡ true → visitOne around (labelAt ws at) (kidsAt ws at) s .after ≡
+      memberAfter (around .live && isDecoratedMember (labelAt ws at) (kidsAt ws at)) (hasPlainKey (kidsAt ws at)) (around .id) (visit around (kidsAt ws at) s .after)
+  element-after around s e =
+      let n : countF (kidsAt ws at) ≡ children (labelAt ws at .kind) (labelAt ws at .payload) = kids-count ∙ (unfold arityAt arity in refl) in
+      let two : 2 ≤ countF (kidsAt ws at) = omega (arith, n, two-children (labelAt ws at .kind) (labelAt ws at .payload) e) in
+      after-element (labelAt ws at) around (kidsAt ws at) s two e
+
+  -- ---- a class statement
+
+  module _ (kind : labelAt ws at .kind ≡ 4) where
+    class-slots : slotsBelow (standing .slot) (labelAt ws at .kind) (labelAt ws at .payload) ≡ classUnder (labelAt ws at .payload) ∷ []
+    class-slots = ap (λ (k : ℕ). slotsBelow (standing .slot) k (labelAt ws at .payload)) kind ∙ below-4 (standing .slot) (labelAt ws at .payload)
+
+    pub class-one : arityAt ws at ≡ 1
+    class-one = arity-slots ws at standing ∙ ap length class-slots
+
+    class-row : RowFits ws (at + 1) 1 (classUnder (labelAt ws at .payload) ∷ [])
+    class-row = subst (λ (n : ℕ). RowFits ws (at + 1) n (classUnder (labelAt ws at .payload) ∷ [])) class-one (subst (RowFits ws (at + 1) (arityAt ws at)) class-slots (kids-row ws at standing))
+
+    pub class-inside : at + 1 < length ws
+    class-inside = row-first ws (at + 1) 0 _ [] class-row .0
+
+    pub class-kind : labelAt ws (at + 1) .kind ≡ 26
+    unfolding soleKind lookup
+    class-kind = sole-kind (classUnder (labelAt ws at .payload)) (labelAt ws (at + 1)) (row-first ws (at + 1) 0 _ [] class-row .1) tt
+
+    -- the child is that class
+    pub class-row-one : kidsAt ws at ≡ takeF 1 (recordsAt ws (at + 1))
+    unfolding kidsAt
+    class-row-one = ap (λ (n : ℕ). takeF n (recordsAt ws (at + 1))) class-one
+
+    pub class-kids : classKids (kidsAt ws at) ≡ kidsAt ws (at + 1)
+    class-kids = ap classKids (class-row-one ∙ record-one ws (at + 1) class-inside) ∙ (unfold classKids in refl)
+
+    -- the class is kept, over its children visited
+    pub class-here : (around : Around) (s : State) → visitAt ws (at + 1) 1 around s .here ≡ tree (labelAt ws (at + 1)) (visit around (kidsAt ws (at + 1)) s .here)
+    class-here around s =
+        one-here ws around (at + 1) s class-inside ∙ ap (λ r. r .here) (plain-one around (labelAt ws (at + 1)) (kidsAt ws (at + 1)) s (role-26 (labelAt ws (at + 1)) class-kind))

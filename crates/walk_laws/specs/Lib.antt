@@ -1,0 +1,17 @@
+pub mod Rows
+pub mod Written
+pub mod Slots
+pub mod After
+pub mod Kinds
+pub mod Single
+pub mod Roles
+pub mod Quiet
+pub mod Elements
+pub mod Members
+pub mod Calls
+pub mod Default
+pub mod Alias
+pub mod ClassParts
+pub mod ClassPlaces
+pub mod First
+pub mod Classes
