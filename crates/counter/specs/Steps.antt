@@ -108,8 +108,18 @@ module _ (ws : List ℕ) (at : ℕ) (a : Scope) (n d : ℕ) where
 
 -- ---- records
 
+pub dead-and : (x y : Bool) → x ≡ false → (x && y) ≡ false
+dead-and x y e = rw e
+
+pub and-none : (x y : Bool) → y ≡ false → (x && y) ≡ false
+and-none true y e = e
+and-none false y e = refl
+
+pub both-true : (x y : Bool) → x ≡ true → y ≡ true → (x && y) ≡ true
+both-true x y e g = rw (e, g)
+
 module _ {ws aliases : List ℕ} {at n : ℕ} (f : Ready ws aliases at n) (h : at < length ws) (a : Scope) (d : ℕ) where
-  kids-state : {r : Counted} → Counts ws (at + 1) (arityAt ws at) a n d r → visit (aroundOf a) (kidsAt ws at) (stateOf n d) .after ≡ stateOf (r .next) (r .default)
+  pub kids-state : {r : Counted} → Counts ws (at + 1) (arityAt ws at) a n d r → visit (aroundOf a) (kidsAt ws at) (stateOf n d) .after ≡ stateOf (r .next) (r .default)
   kids-state c = sym (ap (λ (x : Result). x .after) (kids-visit ws (aroundOf a) at (stateOf n d))) ∙ c .state
 
   -- a record that does nothing of its own
@@ -135,17 +145,7 @@ module _ {ws aliases : List ℕ} {at n : ℕ} (f : Ready ws aliases at n) (h : a
   unfolding memberAfter
   member-yes b p id s e = rw e
 
-  dead-and : (x y : Bool) → x ≡ false → (x && y) ≡ false
-  dead-and x y e = rw e
-
-  and-none : (x y : Bool) → y ≡ false → (x && y) ≡ false
-  and-none true y e = e
-  and-none false y e = refl
-
-  both-true : (x y : Bool) → x ≡ true → y ≡ true → (x && y) ≡ true
-  both-true x y e g = rw (e, g)
-
-  live-of : aroundOf a .live ≡ a .live
+  pub live-of : aroundOf a .live ≡ a .live
   unfolding aroundOf
   live-of = refl
 
@@ -181,26 +181,25 @@ module _ {ws aliases : List ℕ} {at n : ℕ} (f : Ready ws aliases at n) (h : a
   unfolding stateOf
   default-of m = refl
 
-  arity-20 : (l : Label) (f : Trees) → l .kind ≡ 20 → arity l f ≡ 1
+  pub arity-20 : (l : Label) (f : Trees) → l .kind ≡ 20 → arity l f ≡ 1
   unfolding arity children childTable lookup
   arity-20 l f e = rw e
 
-  -- the class below, counted from no default symbol on
-  below-state : (b : Scope) {r : Counted} (x : Bool) (o : Option ℕ) → b .live ≡ x → optOf (b .id) ≡ o → Counts ws (at + 1) 1 b n 67108864 r →
-      visitAt ws (at + 1) 1 (record { live = x; id = o }) (fresh n) .after ≡ stateOf (r .next) (r .default)
-  below-state b {r} x o l i c =
-      ap (λ (s : State). visitAt ws (at + 1) 1 (record { live = x; id = o }) s .after) none-fresh
-      ∙ ap (λ (y : Around). visitAt ws (at + 1) 1 y (stateOf n 67108864) .after) (sym (scope-of b x o l i))
-      ∙ c .state
+  -- the class below, from no default symbol on
+  pub below-visit : (b : Scope) (x : Bool) (o : Option ℕ) → b .live ≡ x → optOf (b .id) ≡ o → kidsAt ws at ≡ takeF 1 (recordsAt ws (at + 1)) →
+      visit (record { live = x; id = o }) (kidsAt ws at) (fresh (stateOf n d .next)) ≡ visitAt ws (at + 1) 1 (aroundOf b) (stateOf n 67108864)
+  below-visit b x o l i k =
+      ap (λ (m : ℕ). visit (record { live = x; id = o }) (kidsAt ws at) (fresh m)) (next-of n d)
+      ∙ ap (λ (g : Trees). visit (record { live = x; id = o }) g (fresh n)) k
+      ∙ (unfold visitAt in
+      ap (λ (s : State). visit (record { live = x; id = o }) (takeF 1 (recordsAt ws (at + 1))) s) none-fresh
+      ∙ ap (λ (y : Around). visit y (takeF 1 (recordsAt ws (at + 1))) (stateOf n 67108864)) (sym (scope-of b x o l i)))
 
-  below-kids : (b : Scope) {r : Counted} (x : Bool) (o : Option ℕ) → b .live ≡ x → optOf (b .id) ≡ o → Counts ws (at + 1) 1 b n 67108864 r → kidsAt ws at ≡ takeF 1 (recordsAt ws (at + 1)) →
+  pub below-kids : (b : Scope) {r : Counted} (x : Bool) (o : Option ℕ) → b .live ≡ x → optOf (b .id) ≡ o → Counts ws (at + 1) 1 b n 67108864 r → kidsAt ws at ≡ takeF 1 (recordsAt ws (at + 1)) →
       visit (record { live = x; id = o }) (kidsAt ws at) (fresh (stateOf n d .next)) .after ≡ stateOf (r .next) (r .default)
-  below-kids b x o l i c k =
-      ap (λ (m : ℕ). visit (record { live = x; id = o }) (kidsAt ws at) (fresh m) .after) (next-of n d)
-      ∙ ap (λ (g : Trees). visit (record { live = x; id = o }) g (fresh n) .after) k
-      ∙ (unfold visitAt in below-state b x o l i c)
+  below-kids b x o l i c k = ap (λ (r : Result). r .after) (below-visit b x o l i k) ∙ c .state
 
-  kids-one : arityAt ws at ≡ 1 → kidsAt ws at ≡ takeF 1 (recordsAt ws (at + 1))
+  pub kids-one : arityAt ws at ≡ 1 → kidsAt ws at ≡ takeF 1 (recordsAt ws (at + 1))
   unfolding kidsAt
   kids-one e = ap (λ (j : ℕ). takeF j (recordsAt ws (at + 1))) e
 
@@ -215,10 +214,10 @@ module _ {ws aliases : List ℕ} {at n : ℕ} (f : Ready ws aliases at n) (h : a
       ∙ ap (λ (m : ℕ). record { next = m; default = stateOf n d .default }) (next-of (r .next) (r .default)) ∙ default-of (r .next))
 
   module _ (kind : labelAt ws at .kind ≡ 4) where
-    live-kids : isLive (kidsAt ws at) ≡ isLive (takeF 1 (recordsAt ws (at + 1)))
+    pub live-kids : isLive (kidsAt ws at) ≡ isLive (takeF 1 (recordsAt ws (at + 1)))
     live-kids = ap isLive (class-row-one ws (f .whole) at h kind)
 
-    id-kids : idOf (classKids (kidsAt ws at)) ≡ idOf (kidsAt ws (at + 1))
+    pub id-kids : idOf (classKids (kidsAt ws at)) ≡ idOf (kidsAt ws (at + 1))
     id-kids = ap idOf (class-kids ws (f .whole) at h kind)
 
     place-of : {r : Counted} (b : Scope) → Counts ws (at + 1) 1 b n 67108864 r → r .at ≡ endOf ws (at + 1) (arityAt ws at)
@@ -234,12 +233,29 @@ module _ {ws aliases : List ℕ} {at n : ℕ} (f : Ready ws aliases at n) (h : a
         (below-kids b false (idOf (classKids (kidsAt ws at))) l (i ∙ sym id-kids) c (class-row-one ws (f .whole) at h kind))
         ∙ ap (λ (m : ℕ). record { next = m; default = stateOf n d .default }) (next-of (r .next) (r .default)) ∙ default-of (r .next))
 
+    -- the table says what rule 6's search finds
+    pub found : isDecorated (kidsAt ws (at + 1)) ≡ true → isLive (takeF 1 (recordsAt ws (at + 1))) ≡ true →
+        eqb (getD aliases at 0) 1 ≡ mentioned (idOf (kidsAt ws (at + 1))) (elementsFrom ws at n)
+    found e v = f .planned .right at n h kind v e (f .ids (at + 1) (class-kind ws (f .whole) at h kind))
+
     search : (x : Bool) → x ≡ isDecorated (kidsAt ws (at + 1)) → isLive (takeF 1 (recordsAt ws (at + 1))) ≡ true → (t : State) →
         classAfter x (idOf (kidsAt ws (at + 1))) (eqb (getD aliases at 0) 1) t ≡ classAfter x (idOf (kidsAt ws (at + 1))) (mentioned (idOf (kidsAt ws (at + 1))) (elementsFrom ws at n)) t
-    search true e v t =
-        ap (λ (y : Bool). classAfter true (idOf (kidsAt ws (at + 1))) y t)
-        (f .planned .right at n h kind v (sym e) (f .ids (at + 1) (class-kind ws (f .whole) at h kind)))
+    search true e v t = ap (λ (y : Bool). classAfter true (idOf (kidsAt ws (at + 1))) y t) (found (sym e) v)
     search false e v t = unfold classAfter in refl
+
+    -- the class visited, and its elements
+    pub class-at : (sc : Around) → visit sc (kidsAt ws at) (fresh (stateOf n d .next)) .here ≡ tree (labelAt ws (at + 1)) (visit sc (kidsAt ws (at + 1)) (fresh n) .here)
+    class-at sc =
+        ap (λ (j : ℕ). visit sc (kidsAt ws at) (fresh j) .here) (next-of n d)
+        ∙ ap (λ (g : Trees). visit sc g (fresh n) .here) (class-row-one ws (f .whole) at h kind)
+        ∙ (unfold visitAt in class-here ws (f .whole) at h kind sc (fresh n))
+
+    pub elements-at : elementsOf (visit (record { live = true; id = idOf (classKids (kidsAt ws at)) }) (kidsAt ws (at + 1)) (fresh n) .here) ≡ elementsFrom ws at n
+    elements-at =
+        let sc : Around = record { live = true; id = idOf (classKids (kidsAt ws at)) } in
+        sym (unfold elementsFrom in
+        ap (λ (o : Option ℕ). elementsOf (classKids (visitAt ws (at + 1) 1 (record { live = true; id = o }) (fresh n) .here))) (sym id-kids)
+        ∙ ap (λ (g : Trees). elementsOf (classKids g)) (class-here ws (f .whole) at h kind sc (fresh n)) ∙ (unfold classKids tree in refl))
 
     -- a live class: m is the counter once it has its symbols
     pub count-live : (b : Scope) {r : Counted} (m : ℕ) → b .live ≡ true → optOf (b .id) ≡ idOf (kidsAt ws (at + 1)) → isLive (takeF 1 (recordsAt ws (at + 1))) ≡ true →
@@ -250,19 +266,11 @@ module _ {ws aliases : List ℕ} {at n : ℕ} (f : Ready ws aliases at n) (h : a
         let ck : Trees = kidsAt ws (at + 1) in
         let kk : Trees = kidsAt ws at in
         let sc : Around = record { live = true; id = idOf (classKids kk) } in
-        let class-at : visit sc kk (fresh (stateOf n d .next)) .here ≡ tree (labelAt ws (at + 1)) (visit sc ck (fresh n) .here) =
-        ap (λ (j : ℕ). visit sc kk (fresh j) .here) (next-of n d)
-        ∙ ap (λ (g : Trees). visit sc g (fresh n) .here) (class-row-one ws (f .whole) at h kind)
-        ∙ (unfold visitAt in class-here ws (f .whole) at h kind sc (fresh n)) in
-        let els : elementsOf (visit sc ck (fresh n) .here) ≡ elementsFrom ws at n =
-        sym (unfold elementsFrom in
-        ap (λ (o : Option ℕ). elementsOf (classKids (visitAt ws (at + 1) 1 (record { live = true; id = o }) (fresh n) .here))) (sym id-kids)
-        ∙ ap (λ (g : Trees). elementsOf (classKids g)) (class-here ws (f .whole) at h kind sc (fresh n)) ∙ (unfold classKids tree in refl)) in
         count-one ws at a n d h (place-of b c)
-        (after-live (aroundOf a) (labelAt ws at) kk (stateOf n d) (role-4 (labelAt ws at) kind) (live-kids ∙ v) (labelAt ws (at + 1)) (visit sc ck (fresh n) .here) class-at
+        (after-live (aroundOf a) (labelAt ws at) kk (stateOf n d) (role-4 (labelAt ws at) kind) (live-kids ∙ v) (labelAt ws (at + 1)) (visit sc ck (fresh n) .here) (class-at sc)
         ∙ ap (λ (t : State). record { next = classAfter (isDecorated (classKids kk)) (idOf (classKids kk)) (mentioned (idOf (classKids kk)) (elementsOf (visit sc ck (fresh n) .here))) t; default = stateOf n d .default })
         (below-kids b true (idOf (classKids kk)) l (i ∙ sym id-kids) c (class-row-one ws (f .whole) at h kind))
-        ∙ ap (λ (g : Trees). record { next = classAfter (isDecorated (classKids kk)) (idOf (classKids kk)) (mentioned (idOf (classKids kk)) g) (stateOf (r .next) (r .default)); default = stateOf n d .default }) els
+        ∙ ap (λ (g : Trees). record { next = classAfter (isDecorated (classKids kk)) (idOf (classKids kk)) (mentioned (idOf (classKids kk)) g) (stateOf (r .next) (r .default)); default = stateOf n d .default }) elements-at
         ∙ ap (λ (g : Trees). record { next = classAfter (isDecorated g) (idOf g) (mentioned (idOf g) (elementsFrom ws at n)) (stateOf (r .next) (r .default)); default = stateOf n d .default }) (class-kids ws (f .whole) at h kind)
         ∙ ap (λ (j : ℕ). record { next = j; default = stateOf n d .default })
         (sym (search (isDecorated ck) refl v (stateOf (r .next) (r .default))) ∙ ap (λ (o : Option ℕ). classAfter (isDecorated ck) o (eqb (getD aliases at 0) 1) (stateOf (r .next) (r .default))) (sym i) ∙ sym e)

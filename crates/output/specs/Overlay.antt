@@ -42,6 +42,10 @@ pub wrote-none : (o : List ℕ) (at : ℕ) → Wrote o at [] o at
 unfolding overlay
 wrote-none o at = record { list = refl; end = sym (add-zero at) }
 
+-- the same words
+pub wrote-as : {o : List ℕ} {at : ℕ} {a b o₁ : List ℕ} {n : ℕ} → a ≡ b → Wrote o at a o₁ n → Wrote o at b o₁ n
+wrote-as e w = record { list = rw (← e) (w .list); end = rw (← e) (w .end) }
+
 -- one writer behind another
 pub wrote-then : {o : List ℕ} {at : ℕ} {a : List ℕ} {o₁ : List ℕ} {n₁ : ℕ} {b : List ℕ} {o₂ : List ℕ} {n₂ : ℕ} →
     Wrote o at a o₁ n₁ → Wrote o₁ n₁ b o₂ n₂ → Wrote o at (a ++ b) o₂ n₂

@@ -19,7 +19,7 @@ use Rattle.grammar.specs.Accepted.{module-slots}
 use Rattle.rewriting.specs.Parts.{Role, list, statement, expression, method, constructor, roleOf, tree, recount, isLive, classKids}
 use Rattle.rewriting.specs.Visit.{Around, State, Result, liveClass, deadClass, classIf, kept, wholeModule, own, since, work, inside, entering, join, _then_, visit, outermost}
 use Rattle.rewriting.specs.Roles.{role-case, isPlain, plain-role, statement-role, module-role}
-use Rattle.rewriting.specs.Fitting.{Above, above-replicate, hasStatements, deep-below, category-of}
+use Rattle.rewriting.specs.Fitting.{EachSlot, Above, slots-replicate, hasStatements, deep-below, category-of}
 use Rattle.rewriting.specs.Kept.{keeps, Like, like, plain-statements}
 use Rattle.rewriting.specs.Facts.{counter}
 use Rattle.rewriting.specs.Spare.{sole}
@@ -102,7 +102,7 @@ module _ (x : ℕ) (around inner : Around) (l c : Label) (ck : Trees) (outside :
   k26 = sole (slot 5 (l .payload)) c 5 (fits .0) refl tt
 
   visited : Fits (slot 5 (l .payload) ∷ []) (a .here) × Calls (a .calls)
-  unfolding Above
+  unfolding EachSlot
   visited = below .others (slot 5 (l .payload) ∷ []) (omega arith, tt) fits
 
   dead-closed : EachFits (slot 3 x) (tree l (a .here))
@@ -187,7 +187,7 @@ module _ (around : Around) (s : State) (l : Label) (k : Trees) (below : Closes k
         (each-append (slot 3 x) (own′ .here) (visit around r (own′ .after) .here) (b .0) (c .0), calls-append (own′ .calls) (visit around r (own′ .after) .calls) (b .1) (c .1))
 
     node-others : (qs : List Slot) → Above 3 qs → Fits qs (node l k r) → Fits qs (visit around (node l k r) s .here) × Calls (visit around (node l k r) s .calls)
-    unfolding Above Fits visit _then_ join work since rowOf lookup table row
+    unfolding EachSlot Fits visit _then_ join work since rowOf lookup table row
     node-others [] d h = absurd h
     node-others (q ∷ qs) d h =
         let b = one-other q (λ e. absurd (omega (arith, d .0, category-of q l 1 (h .0) e))) (λ e. absurd (omega (arith, d .0, category-of q l 4 (h .0) e))) (h .0) (h .1) in
@@ -268,7 +268,7 @@ module _ (l m : Label) (r : Trees) (first : ℕ) (allow : Allowed moduleSlot l) 
     (
       fitting next (repay m next) (rw k40) (omega (arith, low, counter r outermost start)),
       tt,
-      visit-good first r (replicate (countF r) (slot 3 1)) (above-replicate 2 (countF r) (slot 3 1) (omega arith)) (each-fits (slot 3 1) r each) few good′,
+      visit-good first r (replicate (countF r) (slot 3 1)) (slots-replicate (λ q. 2 < q .category) (countF r) (slot 3 1) (omega arith)) (each-fits (slot 3 1) r each) few good′,
     ),
     tt,
   )

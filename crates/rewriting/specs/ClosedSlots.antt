@@ -83,7 +83,7 @@ free q l n a e =
 -- ---- an expression in another context
 
 infixr 20 _⨾_
-abbrev _⨾_ : {A B : Type 0} → A → B → A × B
+abbrev pub _⨾_ : {A B : Type 0} → A → B → A × B
 a ⨾ b = (a, b)
 
 -- of a kind of expression that is no 34 and no 35

@@ -17,7 +17,7 @@ use Rattle.rewriting.specs.Parts.{Role, module′, list, statement, expr
 use Rattle.rewriting.specs.Visit.{Around, State, Result, Taken, Named, classSymbol, plainName, nameIf, nameOf, prefix, array, memberCall, withKey, called₁, called₂, memberIf, member, isRef, toAlias, renamed, Symbols, symbolsOf, namedSymbols, aliased, assignment, blockAlias, letAlias, aliasBlock, callBlock, queued, export, firstPayload, withId, decoratedStatement, decorated₁, decorated₂, nameClass, extendBody, undecoratedIf, liveClassIf, liveClass, deadClass, classIf, kept, own, since, work, inside, entering, join, _then_, visit, outermost}
 use Rattle.rewriting.specs.Roles.{never, role-case, isPlain, plain-role}
 use Rattle.rewriting.specs.Facts.{entering-next}
-use Rattle.rewriting.specs.Fitting.{Above, inner-below, category-of}
+use Rattle.rewriting.specs.Fitting.{EachSlot, Above, inner-below, category-of}
 use Rattle.rewriting.specs.Spare.{sole}
 use Rattle.rewriting.specs.Length.{renamed-size, visit-length}
 
@@ -620,7 +620,7 @@ statement-kids q l k h e = class-kids (slot 5 (l .payload)) k refl (subst (λ (m
 
 visit-sound : (f : Trees) (qs : List Slot) (around : Around) (s : State) → Above 2 qs → Fits qs f → 3 * size f ≤ 67108864 → K (s .next) f →
     Below (s .next) (around .id) → Below (s .next) (s .default) → Sound (s .next) (visit around f s)
-unfolding Above Fits visit _then_ join work since Each rowOf lookup table row
+unfolding EachSlot Fits visit _then_ join work since Each rowOf lookup table row
 visit-sound end qs around s u g few h id d = record { low = omega arith; here = tt; calls = tt; default = d }
 visit-sound (node l k r) [] around s u g few h id d = absurd g
 visit-sound (node l k r) (q ∷ qs) around s u g few h id d =

@@ -23,7 +23,7 @@
 --   "Taken in order, the arrays hold .."                                               follows: arrays-hold of DemandArrays
 -- The symbols, by the report: a class's is its id's, else its default symbol (Behind .named); a computed key's stands in its element too (NameIf).
 -- Of the rewriting only `visit` is named, in some state (AsVisited): the equation for all words settles the numbers; and `inside`, the class directly around.
--- The report is the definition's own: a promise must not leave it free.
+-- The report is the definition's own: a promise must not leave it free. For words: DemandWords.
 use mathlib.Core.Path.{_≡_}
 use mathlib.Core.Bool.{Bool, true, false, _&&_, _||_, not, cond}
 use mathlib.Core.Option.{Option, none, some}

@@ -1,28 +1,29 @@
 -- Demand 3 of one module, and wrong rewritings of it that the statement rules out, whatever the report. Assumes nothing.
 use mathlib.Core.Path.{_≡_, refl, ap, sym, _∙_, subst}
-use mathlib.Core.Bool.{Bool, true, false, cond}
+use mathlib.Core.Bool.{Bool, true, false, cond, true≢false, or-true}
 use mathlib.Core.Option.{Option, none, some}
 use mathlib.Core.List.{List, [], _∷_}
 use Prim.Native.Nat.{ℕ, zero, suc, _≤_}
 use native.Mathlib.Omega.{arith}
 use lib.ListN.{getD}
 use lib.Dec.{eqb}
-use Rattle.words.specs.Word.{kindOf, payloadOf, wordOf, bit0, bit1, bit2, childTable, children}
-use Rattle.words.specs.Table.{lookup}
-use Rattle.records.specs.Forest.{end, node, takeF, dropF, appendF, countF, anyF, mapF, appendF-end, appendF-assoc}
-use Rattle.records.specs.Prefix.{push, build}
-use Rattle.records.specs.Label.{Label, made, read, Trees, _∶_, readAt, repay, become, is, bit, wordAt, words, readFrom, arity}
-use Rattle.rewriting.specs.Parts.{tree, isEmpty, recount, kidsOf, changeKids, anyRecord, roleOf, decorators, undecorate, parametersOf, indexed, ofParameters, bareParameters, decoratorsOf, bareMethod, bareField, isConstructor, isMember, isDecoratedMember, isPlainKey, firstIsPlain, hasPlainKey, elementsOf, withElements, symbolIf, idOf, ofElements, hasPrivateIn, hasStatic, constructorDecorated, firstConstructor, bareFirst, isDecorated, isDecoratedClass, isLive, classKids, hasConstructor, isRefused7}
-use Rattle.rewriting.specs.Visit.{Key, sign, signed, classSymbol, plainName, nameIf, nameOf, prefix, array, memberCall, withKey, called₂, called₁, memberIf, member, isRef, toAlias, renamed, namedSymbols, symbolsOf, aliased, assignment, blockAlias, letAlias, aliasBlock, callBlock, queued, export, firstPayload, withId, decoratedStatement, decorated₂, decorated₁, nameClass, extendBody, undecoratedIf, liveClassIf, liveClass, deadClass, classIf, wholeModule, kept, own, signedBy, since, work, inside, entering, join, _then_, visit, visitOne, outermost, moduleOf, visitWords}
-use Rattle.rewriting.specs.Demand.{Has, first, same, taken, isAt, countAt, droppedAt, dropped, searched, both, reaching, throughAll, constructors, isList, statementsOf, Calls, CallIf, Assigned, Listed, Behind, Found, Demand}
-use Rattle.rewriting.specs.DemandGrammar.{isExpression, isKey, isElement, isOutside, all, begins, endsInBody, ofMethod, ofField, fits, isMisplaced, Accepted}
+use borrow.Author.Tests.{eq-eqb}
+use Rattle.records.specs.Forest.{end, node, takeF, dropF, appendF, countF, anyF, appendF-end, appendF-assoc}
+use Rattle.records.specs.Label.{Label, made, read, Trees, _∶_, is, words}
+use Rattle.grammar.specs.Scan.{symbolsOf}
+use Rattle.rewriting.specs.Parts.{tree, isDecoratedMember, elementsOf, isDecoratedClass}
+use Rattle.rewriting.specs.Visit.{Key, prefix, memberCall, assignment, export, outermost, moduleOf, visitWords}
+use Rattle.rewriting.specs.Demand.{Has, first, below, behind as further, same, taken, isAt, countAt, droppedAt, dropped, searched, both, reaching, throughAll, constructors, isList, statementsOf, Calls, CallIf, Assigned, Listed, Behind, Found, Demand}
+use Rattle.rewriting.specs.Answer.{turnedBack, moduleWords}
+use Rattle.rewriting.specs.Computed.{computed as answered}
+use Rattle.rewriting.specs.DemandWords.{Same, DemandWords}
 use Rattle.rewriting.specs.DemandReach.{unique}
-use Rattle.rewriting.specs.DemandHolds.{demand-3}
+use Rattle.rewriting.specs.DemandAccepted.{demand-words}
 use Rattle.rewriting.specs.DemandArrays.{entry, entries, arrayIn, arrays, ofMembers, arrays-hold}
 
 -- unfolds all that the rewriting and the statement are made of
 unfoldable pub computed : Unit {0}
-unfolding takeF dropF appendF countF anyF mapF push build kindOf payloadOf wordOf bit0 bit1 bit2 childTable children lookup _∶_ readAt repay become is bit wordAt words readFrom arity tree isEmpty recount kidsOf changeKids anyRecord roleOf decorators undecorate parametersOf indexed ofParameters bareParameters decoratorsOf bareMethod bareField isConstructor isMember isDecoratedMember isPlainKey firstIsPlain hasPlainKey elementsOf withElements symbolIf idOf ofElements hasPrivateIn hasStatic constructorDecorated firstConstructor bareFirst isDecorated isDecoratedClass isLive classKids hasConstructor isRefused7 sign signed classSymbol plainName nameIf nameOf prefix array memberCall withKey called₂ called₁ memberIf member isRef toAlias renamed namedSymbols symbolsOf aliased assignment blockAlias letAlias aliasBlock callBlock queued export firstPayload withId decoratedStatement decorated₂ decorated₁ nameClass extendBody undecoratedIf liveClassIf liveClass deadClass classIf wholeModule kept own signedBy since work inside entering join _then_ visit visitOne outermost moduleOf visitWords same taken isAt countAt droppedAt dropped searched both reaching throughAll constructors isList statementsOf isExpression isKey isElement isOutside all begins endsInBody ofMethod ofField fits isMisplaced entry entries arrayIn arrays ofMembers
+unfolding answered same taken isAt countAt droppedAt dropped searched both reaching throughAll constructors isList statementsOf entry entries arrayIn arrays ofMembers
 computed = tt
 
 -- `export @a class C { @b m() {} @c [k] }  class D { @d static q }`, with a, b, c, d, C, D, k as 0 to 6
@@ -59,12 +60,12 @@ built = refl
 
 -- ---- demand 3 holds of it
 
-accepted : Accepted read-module
-unfolding computed
-accepted = record { grammar = refl; seven = refl }
+accepted : turnedBack example ≡ 0
+unfolding example computed
+accepted = refl
 
-holds : Demand (moduleOf example) (visitWords 7 example .here) (visitWords 7 example .fresh)
-holds = demand-3 7 example (subst (λ f. Accepted f) (sym built) accepted)
+holds : DemandWords example (moduleWords example)
+holds = demand-words example accepted
 
 -- ---- what it becomes, and other rewritings of it
 
@@ -171,18 +172,39 @@ unfolding after appendF same
 after-append i end o k x h e = rw e
 after-append i (node l j r) o k x h e = ap (λ (b : Bool). cond b (appendF r (node o k x)) (after i (appendF r (node o k x)))) (ap (same (read i)) (h .0)) ∙ after-append i r o k x (h .1) e
 
--- ---- by the statement alone: what became of a module's own list, of a rewriting whose module is (m, j)
+-- ---- by the statement alone: what became of a module's own list
 
-pub module-listed : (l s : Label) (sk ss out : Trees) (rs : List Label) → Demand (node l (node s sk ss) end) out rs → is 1 l ≡ true → l .from ≡ read 0 →
+record Own (rs : List Label) (ss out : Trees) : Type 0 where
+  label : Label
+  kids : Trees
+  there : Has label kids out
+  from : label .from ≡ read 0
+  kind : label .kind ≡ 1
+  listed : Listed rs ss (dropF 1 kids)
+
+own-list : (l s : Label) (sk ss out : Trees) (rs : List Label) → Demand (node l (node s sk ss) end) out rs → l .kind ≡ 1 → l .from ≡ read 0 →
+    countAt 0 (dropped outermost (node l (node s sk ss) end)) ≡ 0 → reaching rs 0 (node l (node s sk ss) end) ≡ [] → Own rs ss out
+unfolding isList is statementsOf dropF throughAll
+own-list l s sk ss out rs d one zero′ stays reached =
+    let f : Found (node l (node s sk ss) end) out rs 0 l (node s sk ss) = d .lists l (node s sk ss) 0 first (rw one) zero′ stays in
+    let first-gone : (k : Trees) → cond (eqb (l .kind) 1) (dropF 1 k) k ≡ dropF 1 k = λ k. rw one in
+    let k : dropF 1 (f .kids) ≡ f .statements = sym (first-gone (f .kids)) ∙ f .through ∙ ap (λ (x : List (ℕ × ℕ)). throughAll x (f .statements)) reached in
+    record {
+      label = f .label;
+      kids = f .kids;
+      there = f .there;
+      from = f .origin;
+      kind = f .kind ∙ one;
+      listed = rw k (subst (λ (g : Trees). Listed rs g (f .statements)) (first-gone (node s sk ss)) (f .listed));
+    }
+
+-- of a rewriting whose module is (m, j)
+pub module-listed : (l s : Label) (sk ss out : Trees) (rs : List Label) → Demand (node l (node s sk ss) end) out rs → l .kind ≡ 1 → l .from ≡ read 0 →
     countAt 0 (dropped outermost (node l (node s sk ss) end)) ≡ 0 → reaching rs 0 (node l (node s sk ss) end) ≡ [] →
     (m : Label) (j : Trees) → Has m j out → m .from ≡ read 0 → countAt 0 out ≤ 1 → Listed rs ss (dropF 1 j)
-unfolding isList statementsOf dropF throughAll
 module-listed l s sk ss out rs d one zero′ stays reached m j there from once =
-    let f : Found (node l (node s sk ss) end) out rs 0 l (node s sk ss) = d .lists l (node s sk ss) 0 first (rw one) zero′ stays in
-    let k : dropF 1 j ≡ f .statements =
-    ap (dropF 1) (unique 0 (f .label) m (f .kids) j out (f .there) there (f .origin) from once .1) ∙ ap (λ (b : Bool). cond b (dropF 1 (f .kids)) (f .kids)) (sym one) ∙ f .through
-    ∙ ap (λ (x : List (ℕ × ℕ)). throughAll x (f .statements)) reached in
-    rw k (subst (λ (b : Bool). Listed rs (cond b ss (node s sk ss)) (f .statements)) one (f .listed))
+    let o : Own rs ss out = own-list l s sk ss out rs d one zero′ stays reached in
+    subst (λ (k : Trees). Listed rs ss (dropF 1 k)) (sym (unique 0 (o .label) m (o .kids) j out (o .there) there (o .from) from once .1)) (o .listed)
 
 -- ---- what is behind C and behind D
 
@@ -281,6 +303,32 @@ module _ (n : ℕ) (behind : Trees) (rs : List Label) (d : Demand read-module (b
   unfolding computed
   must-D = ap arrays more-is ∙ arrays-hold rs l-D read-D (mine .p) (mine .pk) (mine .more) (mine .D)
 
+-- ---- the same records, wherever they come from
+
+same-first : (l : Label) (k r f : Trees) → Same (node l k r) f → firstKind f ≡ l .kind
+unfolding Same firstKind
+same-first l k r end h = absurd h
+same-first l k r (node m j s) h = sym (h .0)
+
+same-behind : (l : Label) (k r f : Trees) → Same (node l k r) f → Same r (dropF 1 f)
+unfolding Same dropF
+same-behind l k r end h = absurd h
+same-behind l k r (node m j s) h = h .3
+
+has-kind : (n : ℕ) (f t : Trees) (m : Label) (j : Trees) → Same f t → Has m j t → m .kind ≡ n → anyF (is n) f ≡ true
+unfolding Same anyF is
+has-kind n end (node a b s) m j h x e = absurd h
+has-kind n (node l k r) (node a b s) m j h first e = rw (eq-eqb (l .kind) n (h .0 ∙ e))
+has-kind n (node l k r) (node a b s) m j h (below x) e = rw (has-kind n k b m j (h .2) x e, or-true)
+has-kind n (node l k r) (node a b s) m j h (further x) e = rw (has-kind n r s m j (h .3) x e, or-true)
+
+-- the only record of kind n is the first
+same-kids : (n : ℕ) (l : Label) (k t : Trees) (m : Label) (j : Trees) → anyF (is n) k ≡ false → Same (node l k end) t → Has m j t → m .kind ≡ n → Same k j
+unfolding Same
+same-kids n l k (node a b s) m j only h first e = h .2
+same-kids n l k (node a b s) m j only h (below x) e = absurd (true≢false (sym (has-kind n k b m j (h .2) x e) ∙ only))
+same-kids n l k (node a b (node c d t)) m j only h (further x) e = absurd (h .3)
+
 -- ---- wrong rewritings
 
 -- the second call is missing
@@ -327,14 +375,21 @@ only-first rs d =
     let e : _≡_ {A = ℕ} 0 25 = ap (λ (xs : List ℕ). getD xs 0 0) (must-D 6 (and call-m (and (call-k 7) (and assign-C (and export-C (D-and 1 (leaf (at 25 9 3)) end))))) rs d (omega arith)) in
     omega (arith, e)
 
--- the module is copied through
-copied : (rs : List Label) → Demand read-module read-module rs → ⊥
+-- the module is copied through, whatever origins its words are given
+copied : (t : Trees) (rs : List Label) → Same read-module t → Demand read-module t rs → ⊥
 unfolding computed firstKind
-copied rs d =
-    let h : Parts rs statements = parts rs statements (module-listed (at 0 1 2) (at 1 40 7) end statements read-module rs d refl refl refl refl _ _ first refl (omega arith)) in
-    let b : Behind rs l-C class-C (h .o) (h .ok) (h .put) = h .C in
-    let e : _≡_ {A = ℕ} 4 5 = ap firstKind (h .whole) ∙ b .became in
+copied t rs h d =
+    let o : Own rs statements t = own-list (at 0 1 2) (at 1 40 7) end statements t rs d refl refl refl refl in
+    let p : Parts rs (dropF 1 (o .kids)) = parts rs (dropF 1 (o .kids)) (o .listed) in
+    let b : Behind rs l-C class-C (p .o) (p .ok) (p .put) = p .C in
+    let k : Same statements (dropF 1 (o .kids)) = same-behind (at 1 40 7) end statements (o .kids) (same-kids 1 (at 0 1 2) _ t (o .label) (o .kids) refl h (o .there) (o .kind)) in
+    let e : _≡_ {A = ℕ} 4 5 = sym (same-first (at 2 4 1) _ _ _ k) ∙ ap firstKind (p .whole) ∙ b .became in
     omega (arith, e)
+
+copied-words : DemandWords example example → ⊥
+copied-words d =
+    copied (d .written) (visitWords (symbolsOf example) example .fresh) (subst (λ f. Same f (d .written)) built (d .same))
+    (subst (λ f. Demand f (d .written) (visitWords (symbolsOf example) example .fresh)) built (d .demand))
 
 -- a dropped decorator is still there: `declare class C { @a p }`, a and C as 0 and 1
 abbrev declared : Trees

@@ -9,9 +9,10 @@ use Rattle.records.specs.Forest.{end, node, dropF, appendF, appendF-end}
 use Rattle.records.specs.Label.{Label, read, Trees, _∶_, is, words}
 use Rattle.rewriting.specs.Parts.{tree}
 use Rattle.rewriting.specs.Visit.{Default, Alias, export, prefix, memberCall, assignment, moduleOf, visitWords}
+use Rattle.rewriting.specs.Answer.{turnedBack, moduleWords}
 use Rattle.rewriting.specs.Demand.{Names, Has, first, countAt, taken, AsVisited, Listed, Behind, Demand}
-use Rattle.rewriting.specs.DemandGrammar.{Accepted}
-use Rattle.rewriting.specs.DemandHolds.{demand-3}
+use Rattle.rewriting.specs.DemandWords.{DemandWords}
+use Rattle.rewriting.specs.DemandAccepted.{demand-words}
 use Rattle.rewriting.specs.DemandExample.{module-listed, computed, at, leaf, firstKids, firstPayloadOf}
 
 -- `@C class C { constructor(@x p); constructor(@y q) {} @C m() { C } }`, with C, x, y as 0 to 2
@@ -45,12 +46,12 @@ built : moduleOf example ≡ read-module
 unfolding example computed
 built = refl
 
-accepted : Accepted read-module
-unfolding computed
-accepted = record { grammar = refl; seven = refl }
+accepted : turnedBack example ≡ 0
+unfolding example computed
+accepted = refl
 
-holds : Demand (moduleOf example) (visitWords 3 example .here) (visitWords 3 example .fresh)
-holds = demand-3 3 example (subst (λ f. Accepted f) (sym built) accepted)
+holds : DemandWords example (moduleWords example)
+holds = demand-words example accepted
 
 -- what it becomes, with these children of the later constructor, the payloads c and d of m's and the class's decorator in their arrays
 abbrev became : Trees → ℕ → ℕ → Trees

@@ -2,7 +2,8 @@
 -- Definitions only.
 use mathlib.Core.Path.{_≡_}
 use mathlib.Core.Bool.{Bool, true, false, _&&_, _||_, not, cond}
-use mathlib.Core.List.{[], _∷_}
+use mathlib.Core.List.{List, [], _∷_}
+use Prim.Native.Nat.{ℕ}
 use lib.Dec.{leb}
 use Rattle.words.specs.Table.{lookup}
 use Rattle.words.specs.Word.{bit1}
@@ -51,8 +52,9 @@ ofField k = begins (is 28) (begins isKey (all isOutside)) k
 
 -- ---- a record l with the children k
 
-unfoldable pub fits : Label → Trees → Bool
-fits l k = lookup (l .kind) (
+-- by kind; of a kind that isn't here, no class, body or member is a child
+unfoldable pub childRows : Label → Trees → List (ℕ × Bool)
+childRows l k =
     (1, begins (is 40) (all isOutside) k) ∷
     (4, begins (is 26) isEmpty k) ∷
     (20, begins (is 26) isEmpty k) ∷
@@ -64,8 +66,10 @@ fits l k = lookup (l .kind) (
     (31, ofField k) ∷
     (32, ofField k) ∷
     (36, all (is 37) k) ∷
-    (37, begins (is 28) (all isOutside) k) ∷ [])
-    (all isOutside k)
+    (37, begins (is 28) (all isOutside) k) ∷ []
+
+unfoldable pub fits : Label → Trees → Bool
+fits l k = lookup (l .kind) (childRows l k) (all isOutside k)
 
 unfoldable pub isMisplaced : Label → Trees → Bool
 isMisplaced l k = not (fits l k)

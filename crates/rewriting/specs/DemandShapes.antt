@@ -9,8 +9,9 @@ use Rattle.words.specs.Word.{bit1}
 use Rattle.records.specs.Forest.{end, node}
 use Rattle.records.specs.Label.{Label, made, read, Trees, _∶_, is, bit}
 use Rattle.rewriting.specs.Parts.{isEmpty, anyRecord, Role, module′, list, statement, expression, method, constructor, plain, field, roleOf, decorators, isConstructor, isMember, isDecoratedClass, isDecorated, constructorDecorated, hasConstructor, elementsOf, isLive, classKids, isRefused7, ofParameters, parametersOf}
+use Rattle.rewriting.specs.Roles.{by-number, role-case}
 use Rattle.rewriting.specs.Demand.{isList}
-use Rattle.rewriting.specs.DemandGrammar.{isExpression, isKey, isElement, isOutside, all, begins, endsInBody, ofMethod, ofField, fits, isMisplaced, Accepted}
+use Rattle.rewriting.specs.DemandGrammar.{isExpression, isKey, isElement, isOutside, all, begins, endsInBody, ofMethod, ofField, childRows, fits, isMisplaced, Accepted}
 
 -- ---- Bool
 
@@ -46,7 +47,7 @@ unfolding is
 is-kind a l e = eqb-true (l .kind) a e
 
 -- a test on kinds that the record passes and a doesn't
-not-kind : (t : ℕ → Bool) (a : ℕ) (l : Label) → t (l .kind) ≡ true → t a ≡ false → is a l ≡ false
+pub not-kind : (t : ℕ → Bool) (a : ℕ) (l : Label) → t (l .kind) ≡ true → t a ≡ false → is a l ≡ false
 not-kind t a l h g = go (is a l) refl
   where
     go : (b : Bool) → is a l ≡ b → b ≡ false
@@ -54,13 +55,6 @@ not-kind t a l h g = go (is a l) refl
     go false e = refl
 
 -- ---- roles
-
-pick : (n a : ℕ) (P : Role → Type 0) (x y : Role) → (n ≡ a → P x) → (eqb n a ≡ false → P y) → P (cond (eqb n a) x y)
-pick n a P x y h g = go (eqb n a) refl
-  where
-    go : (b : Bool) → eqb n a ≡ b → P (cond b x y)
-    go true e = h (eqb-true n a e)
-    go false e = g e
 
 either : (P : Role → Type 0) (b : Bool) → (b ≡ true → P constructor) → (b ≡ false → P method) → P (cond b constructor method)
 either P true h g = h refl
@@ -73,11 +67,10 @@ pub by-kind : (l : Label) (P : Role → Type 0) →
     (l .kind ≡ 31 → P (field (14 ∶ 0))) → (l .kind ≡ 32 → P (field (13 ∶ 0))) →
     (is 1 l ≡ false → is 3 l ≡ false → is 33 l ≡ false → is 39 l ≡ false → is 4 l ≡ false → is 20 l ≡ false →
     is 30 l ≡ false → is 31 l ≡ false → is 32 l ≡ false → P plain) → P (roleOf l)
-unfolding roleOf lookup is
+unfolding is
 by-kind l P a b c d e f g h i j k =
-    pick (l .kind) 1 P _ _ a λ a′. pick (l .kind) 3 P _ _ b λ b′. pick (l .kind) 33 P _ _ c λ c′. pick (l .kind) 39 P _ _ d λ d′.
-    pick (l .kind) 4 P _ _ e λ e′. pick (l .kind) 20 P _ _ f λ f′. pick (l .kind) 30 P _ _ (λ x. either P (bit bit1 l) (g x) (h x)) λ g′.
-    pick (l .kind) 31 P _ _ i λ i′. pick (l .kind) 32 P _ _ j λ j′. k a′ b′ c′ d′ e′ f′ g′ i′ j′
+    role-case P l a b c d e f (λ x. either P (bit bit1 l) (g x) (h x)) i j
+    (λ n. k (n .not1) (n .not3) (n .not33) (n .not39) (n .not4) (n .not20) (n .not30) (n .not31) (n .not32))
 
 unfoldable pub listRole : Role → Bool
 listRole module′ = true
@@ -411,7 +404,7 @@ one-kind : (l : Label) (a : ℕ) → is a l ≡ true → eqb 1 a ≡ false → e
 unfolding is
 one-kind l a h = one-by l (λ n. eqb n a) h
 
-key-cases : (l : Label) (Q : Type 0) → (isExpression l ≡ true → Q) → (is 34 l ≡ true → Q) → (is 35 l ≡ true → Q) → isKey l ≡ true → Q
+pub key-cases : (l : Label) (Q : Type 0) → (isExpression l ≡ true → Q) → (is 34 l ≡ true → Q) → (is 35 l ≡ true → Q) → isKey l ≡ true → Q
 unfolding isKey
 key-cases l Q a b c = or-cases (isExpression l || is 34 l) (is 35 l) Q (or-cases (isExpression l) (is 34 l) Q a b) c
 
@@ -437,55 +430,55 @@ element-role l h =
 
 module _ (l : Label) (k : Trees) (h : fits l k ≡ true) where
   fit-1 : l .kind ≡ 1 → begins (is 40) (all isOutside) k ≡ true
-  unfolding fits lookup
+  unfolding fits childRows lookup
   fit-1 e = rw e at h
 
   fit-3 : l .kind ≡ 3 → all isOutside k ≡ true
-  unfolding fits lookup
+  unfolding fits childRows lookup
   fit-3 e = rw e at h
 
   fit-33 : l .kind ≡ 33 → all isOutside k ≡ true
-  unfolding fits lookup
+  unfolding fits childRows lookup
   fit-33 e = rw e at h
 
   fit-39 : l .kind ≡ 39 → all isOutside k ≡ true
-  unfolding fits lookup
+  unfolding fits childRows lookup
   fit-39 e = rw e at h
 
   fit-4 : l .kind ≡ 4 → begins (is 26) isEmpty k ≡ true
-  unfolding fits lookup
+  unfolding fits childRows lookup
   fit-4 e = rw e at h
 
   fit-26 : l .kind ≡ 26 → begins (is 28) endsInBody k ≡ true
-  unfolding fits lookup
+  unfolding fits childRows lookup
   fit-26 e = rw e at h
 
   fit-28 : l .kind ≡ 28 → all isExpression k ≡ true
-  unfolding fits lookup
+  unfolding fits childRows lookup
   fit-28 e = rw e at h
 
   fit-29 : l .kind ≡ 29 → all isElement k ≡ true
-  unfolding fits lookup
+  unfolding fits childRows lookup
   fit-29 e = rw e at h
 
   fit-30 : l .kind ≡ 30 → (ofMethod k && (not (bit bit1 l) || isEmpty (decorators k))) ≡ true
-  unfolding fits lookup bit
+  unfolding fits childRows lookup bit
   fit-30 e = rw e at h
 
   fit-31 : l .kind ≡ 31 → ofField k ≡ true
-  unfolding fits lookup
+  unfolding fits childRows lookup
   fit-31 e = rw e at h
 
   fit-32 : l .kind ≡ 32 → ofField k ≡ true
-  unfolding fits lookup
+  unfolding fits childRows lookup
   fit-32 e = rw e at h
 
   fit-36 : l .kind ≡ 36 → all (is 37) k ≡ true
-  unfolding fits lookup
+  unfolding fits childRows lookup
   fit-36 e = rw e at h
 
   fit-37 : l .kind ≡ 37 → begins (is 28) (all isOutside) k ≡ true
-  unfolding fits lookup
+  unfolding fits childRows lookup
   fit-37 e = rw e at h
 
 begins-outside : (p : Label → Bool) (q : Trees → Bool) → ((l : Label) → p l ≡ true → isOutside l ≡ true) → ((f : Trees) → q f ≡ true → all isOutside f ≡ true) →
@@ -503,26 +496,19 @@ field-outside : (k : Trees) → ofField k ≡ true → all isOutside k ≡ true
 unfolding ofField
 field-outside = begins-outside (is 28) _ (λ l. is-outside l 28 refl) (begins-outside isKey _ key-outside (λ f e. e))
 
--- the next entry of the table
-next : (n a : ℕ) (v w : Bool) (Q : Type 0) → (n ≡ a → v ≡ true → Q) → (w ≡ true → Q) → cond (eqb n a) v w ≡ true → Q
-next n a v w Q h g = go (eqb n a) refl
-  where
-    go : (b : Bool) → eqb n a ≡ b → cond b v w ≡ true → Q
-    go true e = h (eqb-true n a e)
-    go false e = g
-
 -- a record outside of classes has only such below it, if it is no class statement or class expression
 kids-outside : (l : Label) (k : Trees) → fits l k ≡ true → isOutside l ≡ true → (l .kind ≡ 4 → ⊥) → (l .kind ≡ 20 → ⊥) → all isOutside k ≡ true
-unfolding fits lookup isOutside is
+unfolding fits childRows lookup isOutside is
 kids-outside l k h o no4 no20 =
     let n : ℕ = l .kind in
     let Q : Type 0 = all isOutside k ≡ true in
     let no : (a : ℕ) → not (eqb a 26 || eqb a 29 || eqb a 30 || eqb a 31 || eqb a 32) ≡ false → l .kind ≡ a → ⊥ = λ a f x.
     true≢false (sym o ∙ ap (λ m. not (eqb m 26 || eqb m 29 || eqb m 30 || eqb m 31 || eqb m 32)) x ∙ f) in
-    next n 1 _ _ Q (λ x e. begins-outside (is 40) _ (λ m. is-outside m 40 refl) (λ f y. y) k e) (next n 4 _ _ Q (λ x e. absurd (no4 x)) (next n 20 _ _ Q (λ x e. absurd (no20 x))
-    (next n 26 _ _ Q (λ x e. absurd (no 26 refl x)) (next n 28 _ _ Q (λ x e. all-map isExpression isOutside expression-outside k e) (next n 29 _ _ Q (λ x e. absurd (no 29 refl x))
-    (next n 30 _ _ Q (λ x e. absurd (no 30 refl x)) (next n 31 _ _ Q (λ x e. absurd (no 31 refl x)) (next n 32 _ _ Q (λ x e. absurd (no 32 refl x))
-    (next n 36 _ _ Q (λ x e. all-map (is 37) isOutside (λ m. is-outside m 37 refl) k e) (next n 37 _ _ Q (λ x e. begins-outside (is 28) _ (λ m. is-outside m 28 refl) (λ f y. y) k e) (λ e. e))))))))))) h
+    let next : (a : ℕ) (v w : Bool) → (n ≡ a → v ≡ true → Q) → (w ≡ true → Q) → cond (eqb n a) v w ≡ true → Q = λ a v w f g. by-number (λ b. b ≡ true → Q) n a v w f (λ x. g) in
+    next 1 _ _ (λ x e. begins-outside (is 40) _ (λ m. is-outside m 40 refl) (λ f y. y) k e) (next 4 _ _ (λ x e. absurd (no4 x)) (next 20 _ _ (λ x e. absurd (no20 x))
+    (next 26 _ _ (λ x e. absurd (no 26 refl x)) (next 28 _ _ (λ x e. all-map isExpression isOutside expression-outside k e) (next 29 _ _ (λ x e. absurd (no 29 refl x))
+    (next 30 _ _ (λ x e. absurd (no 30 refl x)) (next 31 _ _ (λ x e. absurd (no 31 refl x)) (next 32 _ _ (λ x e. absurd (no 32 refl x))
+    (next 36 _ _ (λ x e. all-map (is 37) isOutside (λ m. is-outside m 37 refl) k e) (next 37 _ _ (λ x e. begins-outside (is 28) _ (λ m. is-outside m 28 refl) (λ f y. y) k e) (λ e. e))))))))))) h
 
 -- ---- the shapes
 

@@ -20,66 +20,71 @@ use Rattle.rewriting.specs.Visit.{moduleOf}
 
 -- ---- slots below a record
 
+-- of each slot
+unfoldable pub EachSlot : (Slot → Type 0) → List Slot → Type 0
+EachSlot P [] = Unit {0}
+EachSlot P (q ∷ qs) = P q × EachSlot P qs
+
 -- slots of categories above c: above 2 none of a module or a 40, above 3 none of a statement either
-unfoldable pub Above : ℕ → List Slot → Type 0
-Above c [] = Unit {0}
-Above c (q ∷ qs) = (c < q .category) × Above c qs
+abbrev pub Above : ℕ → List Slot → Type 0
+Above c qs = EachSlot (λ q. c < q .category) qs
 
-module _ (c : ℕ) where
-  above-append : (a b : List Slot) → Above c a → Above c b → Above c (a ++ b)
-  unfolding Above
-  above-append [] b x y = y
-  above-append (q ∷ a) b x y = (x .0, above-append a b (x .1) y)
+module _ (P : Slot → Type 0) where
+  pub slots-append : (a b : List Slot) → EachSlot P a → EachSlot P b → EachSlot P (a ++ b)
+  unfolding EachSlot
+  slots-append [] b x y = y
+  slots-append (q ∷ a) b x y = (x .0, slots-append a b (x .1) y)
 
-  pub above-replicate : (n : ℕ) (q : Slot) → c < q .category → Above c (replicate n q)
-  unfolding Above
-  above-replicate zero q h = tt
-  above-replicate (suc n) q h = (h, above-replicate n q h)
-
-  unfoldable aboveRuns : List Run → Bool
-  aboveRuns [] = true
-  aboveRuns (r ∷ rs) = cond (ltb c (r .slot .category)) (aboveRuns rs) false
-
-  above-slots : (rs : List Run) → T (aboveRuns rs) → Above c (slots rs)
-  unfolding aboveRuns Above slots
-  above-slots [] t = tt
-  above-slots (r ∷ rs) t =
-      let h : c < r .slot .category = ltb→lt c (r .slot .category) (test-left (ltb c (r .slot .category)) (aboveRuns rs) t) in
-      above-append (replicate (r .count) (r .slot)) (slots rs) (above-replicate (r .count) (r .slot) h) (above-slots rs (test-right (ltb c (r .slot .category)) (aboveRuns rs) t))
+  pub slots-replicate : (n : ℕ) (q : Slot) → P q → EachSlot P (replicate n q)
+  unfolding EachSlot
+  slots-replicate zero q h = tt
+  slots-replicate (suc n) q h = (h, slots-replicate n q h)
 
 -- the kinds with statements below them
 unfoldable pub hasStatements : ℕ → Bool
 hasStatements k = lookup k ((1, true) ∷ (3, true) ∷ (33, true) ∷ (39, true) ∷ []) false
 
--- the slots below the kinds that pass a test, if those of every row do
-module _ (c : ℕ) (p : ℕ) (x : ℕ) (test : ℕ → Bool) where
-  unfoldable aboveRow : ℕ → Row → Bool
-  aboveRow k r = cond (test k) (aboveRuns c (r .below x p)) true
+-- the slots below the kinds that pass a test, if those of every row pass another one
+module _ (P : Slot → Type 0) (passes : Slot → Bool) (sound : (q : Slot) → T (passes q) → P q) where
+  unfoldable pub passRuns : List Run → Bool
+  passRuns [] = true
+  passRuns (r ∷ rs) = cond (passes (r .slot)) (passRuns rs) false
 
-  no-row : (k : ℕ) → T (aboveRow k noRow)
-  unfolding aboveRow noRow row leaf aboveRuns
-  no-row k = either (test k)
-    where
-      either : (b : Bool) → T (cond b true true)
-      either true = tt
-      either false = tt
+  pass-slots : (rs : List Run) → T (passRuns rs) → EachSlot P (slots rs)
+  unfolding passRuns EachSlot slots
+  pass-slots [] t = tt
+  pass-slots (r ∷ rs) t =
+      slots-append P (replicate (r .count) (r .slot)) (slots rs)
+      (slots-replicate P (r .count) (r .slot) (sound (r .slot) (test-left (passes (r .slot)) (passRuns rs) t))) (pass-slots rs (test-right (passes (r .slot)) (passRuns rs) t))
 
-  above-row : (k : ℕ) → T (each aboveRow table) → test k ≡ true → Above c (slots (rowOf k .below x p))
-  unfolding aboveRow
-  above-row k t e = above-slots c (rowOf k .below x p) (implied (test k) (aboveRuns c (rowOf k .below x p)) (each-row aboveRow t k (no-row k)) e)
+  module _ (x p : ℕ) (test : ℕ → Bool) where
+    unfoldable pub passRow : ℕ → Row → Bool
+    passRow k r = cond (test k) (passRuns (r .below x p)) true
+
+    no-row : (k : ℕ) → T (passRow k noRow)
+    unfolding passRow noRow row leaf passRuns
+    no-row k = either (test k)
+      where
+        either : (b : Bool) → T (cond b true true)
+        either true = tt
+        either false = tt
+
+    pub pass-row : (k : ℕ) → T (each passRow table) → test k ≡ true → EachSlot P (slots (rowOf k .below x p))
+    unfolding passRow
+    pass-row k t e = pass-slots (rowOf k .below x p) (implied (test k) (passRuns (rowOf k .below x p)) (each-row passRow t k (no-row k)) e)
 
 pub deep-below : (q : Slot) (k p : ℕ) → hasStatements k ≡ false → Above 3 (slotsBelow q k p)
 unfolding slotsBelow
 deep-below q k p n =
-    above-row 3 p (q .context) (λ i. not (hasStatements i)) k
-    (unfold each table row aboveRow hasStatements lookup aboveRuns leaf expressions oneExpression statements in tt) (ap not n)
+    pass-row (λ s. 3 < s .category) (λ s. ltb 3 (s .category)) (λ s. ltb→lt 3 (s .category)) (q .context) p (λ i. not (hasStatements i)) k
+    (unfold each table row passRow hasStatements lookup passRuns leaf expressions oneExpression statements in tt) (ap not n)
 
 -- only a module has a 40 below it
 pub inner-below : (q : Slot) (k p : ℕ) → (k ≡ 1 → ⊥) → Above 2 (slotsBelow q k p)
 unfolding slotsBelow
 inner-below q k p n =
-    above-row 2 p (q .context) (λ i. not (eqb i 1)) k
-    (unfold each table row aboveRow aboveRuns leaf expressions oneExpression statements in tt) (ap not (ne-eqb k 1 n))
+    pass-row (λ s. 2 < s .category) (λ s. ltb 2 (s .category)) (λ s. ltb→lt 2 (s .category)) (q .context) p (λ i. not (eqb i 1)) k
+    (unfold each table row passRow passRuns leaf expressions oneExpression statements in tt) (ap not (ne-eqb k 1 n))
 
 -- ---- the kinds in a slot
 
@@ -92,9 +97,8 @@ behind a b = replicate a id ++ (replicate b expression ++ (body ∷ []))
 
 -- ---- records of one category
 
-unfoldable pub Of : ℕ → List Slot → Type 0
-Of c [] = Unit {0}
-Of c (q ∷ qs) = (q .category ≡ c) × Of c qs
+abbrev pub Of : ℕ → List Slot → Type 0
+Of c qs = EachSlot (λ q. q .category ≡ c) qs
 
 -- f are records of the category c
 pub record Are (c : ℕ) (f : Trees) : Type 0 where
@@ -102,13 +106,11 @@ pub record Are (c : ℕ) (f : Trees) : Type 0 where
   pub of : Of c slots
   pub fits : Fits slots f
 
-pub of-replicate : (n : ℕ) (q : Slot) → Of (q .category) (replicate n q)
-unfolding Of
-of-replicate zero q = tt
-of-replicate (suc n) q = (refl, of-replicate n q)
+of-replicate : (n : ℕ) (q : Slot) → Of (q .category) (replicate n q)
+of-replicate n q = slots-replicate (λ s. s .category ≡ q .category) n q refl
 
 pub none-are : (c : ℕ) → Are c end
-unfolding Of Fits
+unfolding EachSlot Fits
 none-are c = record { slots = []; of = tt; fits = tt }
 
 -- the children of the first record of the kind n, whose children are of the category c

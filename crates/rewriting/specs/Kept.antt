@@ -18,7 +18,7 @@ use Rattle.grammar.specs.Rows.{allowed-row, soleKind, kind-sole}
 use Rattle.rewriting.specs.Parts.{parametersOf, indexed, ofParameters, firstConstructor, Role, module′, list, statement, expression, method, constructor, plain, field, roleOf, tree, recount, decorators, decoratorsOf, bareMethod, bareField, isConstructor, kidsOf}
 use Rattle.rewriting.specs.Visit.{isRef, toAlias, renamed, Around, State, Result, called₁, called₂, memberIf, member, deadClass, kept, own, since, work, inside, entering, join, _then_, visit}
 use Rattle.rewriting.specs.Roles.{never, Plain, role-case, isPlain, plain-role}
-use Rattle.rewriting.specs.Fitting.{Of, parameters-are, Above, hasStatements, deep-below, category-of}
+use Rattle.rewriting.specs.Fitting.{EachSlot, Of, parameters-are, Above, hasStatements, deep-below, category-of}
 
 -- ---- one record for each
 
@@ -137,7 +137,7 @@ same-constructor l p h = go (eqb (l .kind) 30) refl
     go false e = refl
 
 pub like : (f : Trees) (qs : List Slot) (around : Around) (s : State) → Above 3 qs → Fits qs f → Like f (visit around f s .here)
-unfolding Above Fits Like visit _then_ join work since appendF repay
+unfolding EachSlot Fits Like visit _then_ join work since appendF repay
 like end [] around s d h = tt
 like end (q ∷ qs) around s d h = absurd h
 like (node l k r) [] around s d h = absurd h
@@ -200,7 +200,7 @@ unfolding isPlain lookup soleKind keeps
 parameter-keeps q l c a = ap keeps (plain-role l 37 (kind-sole (l .kind) 11 (allowed-row q (l .kind) (l .payload) (a .grammar) .0 ∙ c) tt) tt)
 
 like-rows : (f h : Trees) (qs : List Slot) (i : ℕ) → Of 11 qs → Fits qs f → Like f h → countF (ofParameters i h) ≡ countF (ofParameters i f)
-unfolding Of Fits Like ofParameters
+unfolding EachSlot Fits Like ofParameters
 like-rows end end qs i o g e = refl
 like-rows end (node m j s) qs i o g e = absurd e
 like-rows (node l k r) end qs i o g e = absurd e

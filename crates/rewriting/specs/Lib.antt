@@ -20,6 +20,7 @@ pub mod Closed
 pub mod ReadAgain
 pub mod Room
 pub mod Demand
+pub mod DemandWords
 pub mod DemandGrammar
 pub mod DemandShapes
 pub mod DemandVisits
@@ -34,6 +35,7 @@ pub mod DemandGone
 pub mod DemandEach
 pub mod DemandLists
 pub mod DemandHolds
+pub mod DemandAccepted
 pub mod DemandArrays
 pub mod DemandExample
 pub mod DemandExampleSymbols

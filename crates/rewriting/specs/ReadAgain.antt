@@ -29,14 +29,12 @@ use Rattle.rewriting.specs.Length.{visit-length}
 use Rattle.rewriting.specs.Answer.{turnedBack, moduleWords, reportWords}
 use Rattle.rewriting.specs.Computed.{computed}
 use Rattle.rewriting.specs.Roles.{never}
+use Rattle.rewriting.specs.ClosedSlots.{_⨾_}
 use Rattle.rewriting.specs.ClosedSymbols.{each-take, each-drop, isFree, Good}
 use Rattle.rewriting.specs.Closed.{Module, module-closed}
+use Rattle.rewriting.specs.DemandWords.{Same}
 
 -- ---- every payload fits its 26 bits
-
-infixr 20 _⨾_
-abbrev _⨾_ : {A B : Type 0} → A → B → A × B
-a ⨾ b = (a, b)
 
 -- rules that allow few payloads
 only-zero : (p : ℕ) → eqb p 0 ≡ true → p < 8
@@ -103,12 +101,6 @@ SameLabels [] [] = Unit {0}
 SameLabels [] (m ∷ ms) = ⊥
 SameLabels (l ∷ ls) [] = ⊥
 SameLabels (l ∷ ls) (m ∷ ms) = (l .kind ≡ m .kind) × (l .payload ≡ m .payload) × SameLabels ls ms
-
-unfoldable Same : Trees → Trees → Type 0
-Same end end = Unit {0}
-Same end (node m j s) = ⊥
-Same (node l k r) end = ⊥
-Same (node l k r) (node m j s) = (l .kind ≡ m .kind) × (l .payload ≡ m .payload) × Same k j × Same r s
 
 same-take : (n : ℕ) (f g : Trees) → Same f g → Same (takeF n f) (takeF n g)
 unfolding Same takeF
@@ -323,7 +315,7 @@ module _ (ws : List ℕ) (ok : refusal ws ≡ 0) where
   unfolding reportWords reported visitWords
   symbols-count = omega (arith, says-next, fresh-length (moduleOf ws) outermost start, length-words (visit outermost (moduleOf ws) start .fresh))
 
-  again : Same (treeOf (moduleWords ws)) (result .here)
+  pub again : Same (treeOf (moduleWords ws)) (visitWords (symbolsOf ws) ws .here)
   unfolding moduleWords rewritten
   again = again-same (result .here) (module′ ∷ []) (closed .fits) fit
 

@@ -26,8 +26,9 @@ pub record Plain (l : Label) : Type 0 where
   pub not31 : eqb (l .kind) 31 ≡ false
   pub not32 : eqb (l .kind) 32 ≡ false
 
-either : (P : Role → Type 0) (k n : ℕ) (x y : Role) → (k ≡ n → P x) → (eqb k n ≡ false → P y) → P (cond (eqb k n) x y)
-either P k n x y h g = go (eqb k n) refl
+-- by whether the number k is n
+pub by-number : {A : Type 0} (P : A → Type 0) (k n : ℕ) (x y : A) → (k ≡ n → P x) → (eqb k n ≡ false → P y) → P (cond (eqb k n) x y)
+by-number P k n x y h g = go (eqb k n) refl
   where
     go : (b : Bool) → eqb k n ≡ b → P (cond b x y)
     go true e = h (eqb-true k n e)
@@ -40,9 +41,9 @@ pub role-case : (P : Role → Type 0) (l : Label) →
     (l .kind ≡ 32 → P (field (13 ∶ 0))) → (Plain l → P plain) → P (roleOf l)
 unfolding roleOf lookup
 role-case P l c1 c3 c33 c39 c4 c20 c30 c31 c32 others =
-    either P (l .kind) 1 _ _ c1 λ n1. either P (l .kind) 3 _ _ c3 λ n3. either P (l .kind) 33 _ _ c33 λ n33. either P (l .kind) 39 _ _ c39 λ n39.
-    either P (l .kind) 4 _ _ c4 λ n4. either P (l .kind) 20 _ _ c20 λ n20. either P (l .kind) 30 _ _ c30 λ n30. either P (l .kind) 31 _ _ c31 λ n31.
-    either P (l .kind) 32 _ _ c32 λ n32.
+    by-number P (l .kind) 1 _ _ c1 λ n1. by-number P (l .kind) 3 _ _ c3 λ n3. by-number P (l .kind) 33 _ _ c33 λ n33. by-number P (l .kind) 39 _ _ c39 λ n39.
+    by-number P (l .kind) 4 _ _ c4 λ n4. by-number P (l .kind) 20 _ _ c20 λ n20. by-number P (l .kind) 30 _ _ c30 λ n30. by-number P (l .kind) 31 _ _ c31 λ n31.
+    by-number P (l .kind) 32 _ _ c32 λ n32.
     others (record { not1 = n1; not3 = n3; not33 = n33; not39 = n39; not4 = n4; not20 = n20; not30 = n30; not31 = n31; not32 = n32 })
 
 -- the kinds without a role of their own

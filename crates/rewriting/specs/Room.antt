@@ -40,7 +40,7 @@ untouched r xs o n = rw (ne-eqb (r .code) 0 n)
 -- ---- room enough
 
 -- accepted by refusals 1 to 7, so by 1 to 6
-not-turned-back : (ws : List ℕ) → turnedBack ws ≡ 0 → refusal ws ≡ 0
+pub not-turned-back : (ws : List ℕ) → turnedBack ws ≡ 0 → refusal ws ≡ 0
 unfolding turnedBack
 not-turned-back ws e = go (eqb (refusal ws) 0) refl e
   where

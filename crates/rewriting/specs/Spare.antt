@@ -17,7 +17,7 @@ use Rattle.grammar.specs.WellFormed.{Allowed, Fits}
 use Rattle.grammar.specs.Rows.{allowed-row, soleKind, kind-sole}
 use Rattle.rewriting.specs.Parts.{kidsOf, decorators, parametersOf, indexed, ofParameters, isConstructor, isMember, isEmpty, isDecoratedMember, decoratorsOf, roleOf, field, elementsOf, symbolIf, idOf, constructorDecorated, firstConstructor, isDecorated}
 use Rattle.rewriting.specs.Roles.{never}
-use Rattle.rewriting.specs.Fitting.{behind, category-of, Of, parameters-are, elements-are, decorators-are}
+use Rattle.rewriting.specs.Fitting.{behind, category-of, EachSlot, Of, parameters-are, elements-are, decorators-are}
 use Rattle.rewriting.specs.Kept.{indexed-count}
 
 -- a member or a class statement
@@ -77,7 +77,7 @@ spare-still q l k r a n3 n9 = ap (λ (b : Bool). cond b 0 (2 + spare k) + spare 
 
 -- two for each expression
 expressions-spare : (f : Trees) (qs : List Slot) → Of 4 qs → Fits qs f → 2 * countF f ≤ spare f
-unfolding Of Fits countF
+unfolding EachSlot Fits countF
 expressions-spare end qs o h = omega arith
 expressions-spare (node l k r) [] o h = absurd h
 expressions-spare (node l k r) (q ∷ qs) o h =
@@ -134,7 +134,7 @@ parameter-spare q l k c a h =
 
 -- half of what parameters have
 parameters-spare : (f : Trees) (qs : List Slot) (i : ℕ) → Of 11 qs → Fits qs f → countF (ofParameters i f) ≤ spare f
-unfolding Of Fits ofParameters
+unfolding EachSlot Fits ofParameters
 parameters-spare end qs i o h = unfold countF in omega arith
 parameters-spare (node l k r) [] i o h = absurd h
 parameters-spare (node l k r) (q ∷ qs) i o h =

@@ -216,16 +216,20 @@ member-after true around l k bare entries d a h = keyed bare (hasPlainKey k) _ h
 member-after false around l k bare entries d a h = refl
 
 module _ (around : Around) (l : Label) (k : Trees) (s : State) (two : 2 ≤ countF k) where
+  pub two-method : 2 ≤ countF (bareMethod (visit around k s .here))
+  unfolding bareMethod
+  two-method = omega (arith, two, visit-count k around s, count-change 36 bareParameters (visit around k s .here), count-undecorate (changeKids 36 bareParameters (visit around k s .here)))
+
+  pub two-field : 2 ≤ countF (bareField (visit around k s .here))
+  unfolding bareField
+  two-field = omega (arith, two, visit-count k around s, count-undecorate (visit around k s .here))
+
   pub after-method : roleOf l ≡ method →
       visitOne around l k s .after ≡ memberAfter (around .live && isDecoratedMember l k) (hasPlainKey k) (around .id) (visit around k s .after)
   unfolding visitOne work since
-  after-method e = rw e (unfold own inside entering member in
-      member-after (around .live && isDecoratedMember l k) around l k _ _ _ (visit around k s)
-      (unfold bareMethod in omega (arith, visit-count k around s, count-change 36 bareParameters (visit around k s .here), count-undecorate (changeKids 36 bareParameters (visit around k s .here)))))
+  after-method e = rw e (unfold own inside entering member in member-after (around .live && isDecoratedMember l k) around l k _ _ _ (visit around k s) two-method)
 
   pub after-field : (d : Label) → roleOf l ≡ field d →
       visitOne around l k s .after ≡ memberAfter (around .live && isDecoratedMember l k) (hasPlainKey k) (around .id) (visit around k s .after)
   unfolding visitOne work since
-  after-field d e = rw e (unfold own inside entering member in
-      member-after (around .live && isDecoratedMember l k) around l k _ _ _ (visit around k s)
-      (unfold bareField in omega (arith, visit-count k around s, count-undecorate (visit around k s .here))))
+  after-field d e = rw e (unfold own inside entering member in member-after (around .live && isDecoratedMember l k) around l k _ _ _ (visit around k s) two-field)

@@ -57,19 +57,24 @@ module _ (l : Label) where
   unfolding roleOf lookup
   role-32 e = rw e
 
-  -- a kind whose records do nothing of their own to the state
+  -- a kind whose records do nothing of their own
+  pub role-rest : (P : Role → Type 0) → P moduleRole → P list → P plain → (l .kind ≡ 4 → ⊥) → (l .kind ≡ 20 → ⊥) → (l .kind ≡ 30 → ⊥) → (l .kind ≡ 31 → ⊥) → (l .kind ≡ 32 → ⊥) → P (roleOf l)
+  role-rest P m i p a b c d e =
+      let r : roleOf l ≡ cond (eqb (l .kind) 1) moduleRole (cond (eqb (l .kind) 3) list (cond (eqb (l .kind) 33) list (cond (eqb (l .kind) 39) list plain))) =
+      unfold roleOf lookup in rw (ne-eqb _ 4 a, ne-eqb _ 20 b, ne-eqb _ 30 c, ne-eqb _ 31 d, ne-eqb _ 32 e) in
+      subst P (sym r) (go (eqb (l .kind) 1) (eqb (l .kind) 3) (eqb (l .kind) 33) (eqb (l .kind) 39))
+    where
+      go : (b1 b3 b33 b39 : Bool) → P (cond b1 moduleRole (cond b3 list (cond b33 list (cond b39 list plain))))
+      go true b3 b33 b39 = m
+      go false true b33 b39 = i
+      go false false true b39 = i
+      go false false false true = i
+      go false false false false = p
+
   pub after-rest : (around : Around) (k : Trees) (s : State) → (l .kind ≡ 4 → ⊥) → (l .kind ≡ 20 → ⊥) → (l .kind ≡ 30 → ⊥) → (l .kind ≡ 31 → ⊥) → (l .kind ≡ 32 → ⊥) →
       visitOne around l k s .after ≡ visit around k s .after
   after-rest around k s a b c d e =
-      go (eqb (l .kind) 1) (eqb (l .kind) 3) (eqb (l .kind) 33) (eqb (l .kind) 39)
-      (unfold roleOf lookup in rw (ne-eqb _ 4 a, ne-eqb _ 20 b, ne-eqb _ 30 c, ne-eqb _ 31 d, ne-eqb _ 32 e))
-    where
-      go : (b1 b3 b33 b39 : Bool) → roleOf l ≡ cond b1 moduleRole (cond b3 list (cond b33 list (cond b39 list plain))) → visitOne around l k s .after ≡ visit around k s .after
-      go true b3 b33 b39 e = after-module around l k s e
-      go false true b33 b39 e = after-list around l k s e
-      go false false true b39 e = after-list around l k s e
-      go false false false true e = after-list around l k s e
-      go false false false false e = after-plain around l k s e
+      role-rest (λ (r : Role). roleOf l ≡ r → visitOne around l k s .after ≡ visit around k s .after) (after-module around l k s) (after-list around l k s) (after-plain around l k s) a b c d e refl
 
   not-member : l .kind ≡ 30 → bit bit1 l ≡ true → isMember l ≡ false
   unfolding isMember is
@@ -78,34 +83,6 @@ module _ (l : Label) where
       let b : eqb (l .kind) 31 ≡ false = rw e in
       let c : eqb (l .kind) 32 ≡ false = rw e in
       rw (a, b, c, t)
-
-  constructor-none : (k : Trees) → l .kind ≡ 30 → bit bit1 l ≡ true → isDecoratedMember l k ≡ false
-  unfolding isDecoratedMember
-  constructor-none k e t = rw (not-member e t)
-
-  -- a method, constructor, property or accessor
-  pub after-30 : (around : Around) (k : Trees) (s : State) → 2 ≤ countF k → l .kind ≡ 30 →
-      visitOne around l k s .after ≡ memberAfter (around .live && isDecoratedMember l k) (hasPlainKey k) (around .id) (visit around k s .after)
-  after-30 around k s h e = go (bit bit1 l) refl
-    where
-      none : (b : Bool) → (b && false) ≡ false
-      none true = refl
-      none false = refl
-
-      go : (b : Bool) → bit bit1 l ≡ b → visitOne around l k s .after ≡ memberAfter (around .live && isDecoratedMember l k) (hasPlainKey k) (around .id) (visit around k s .after)
-      go true t =
-          let r : roleOf l ≡ constructor = role-30 e ∙ (rw t) in
-          let m : isDecoratedMember l k ≡ false = constructor-none k e t in
-          after-constructor around l k s r ∙ sym (member-none (around .live && isDecoratedMember l k) (hasPlainKey k) (around .id) (visit around k s .after) (ap (around .live &&_) m ∙ none (around .live)))
-      go false t = after-method around l k s h (role-30 e ∙ (rw t))
-
-  pub after-31 : (around : Around) (k : Trees) (s : State) → 2 ≤ countF k → l .kind ≡ 31 →
-      visitOne around l k s .after ≡ memberAfter (around .live && isDecoratedMember l k) (hasPlainKey k) (around .id) (visit around k s .after)
-  after-31 around k s h e = after-field around l k s h (14 ∶ 0) (role-31 e)
-
-  pub after-32 : (around : Around) (k : Trees) (s : State) → 2 ≤ countF k → l .kind ≡ 32 →
-      visitOne around l k s .after ≡ memberAfter (around .live && isDecoratedMember l k) (hasPlainKey k) (around .id) (visit around k s .after)
-  after-32 around k s h e = after-field around l k s h (13 ∶ 0) (role-32 e)
 
 -- ---- at a place
 
@@ -137,12 +114,30 @@ two-children k p e =
     or-cases (eqb k 30) (eqb k 31) (eqb k 32) e (2 ≤ children k p)
     (λ t. rw (eqb-true k 30 t) (two-30 p)) (λ t. rw (eqb-true k 31 t) (two-31 p)) (λ t. rw (eqb-true k 32 t) (two-32 p))
 
+-- a method, constructor, property or accessor
+pub role-element : (l : Label) (P : Role → Type 0) → isElementKind (l .kind) ≡ true → (isMember l ≡ false → P constructor) → P method → ((d : Label) → P (field d)) → P (roleOf l)
+unfolding isElementKind
+role-element l P e c m f =
+    or-cases (eqb (l .kind) 30) (eqb (l .kind) 31) (eqb (l .kind) 32) e (P (roleOf l))
+    (λ t. subst P (sym (role-30 l (eqb-true _ 30 t))) (go (eqb-true _ 30 t) (bit bit1 l) refl)) (λ t. subst P (sym (role-31 l (eqb-true _ 31 t))) (f (14 ∶ 0))) (λ t. subst P (sym (role-32 l (eqb-true _ 32 t))) (f (13 ∶ 0)))
+  where
+    go : l .kind ≡ 30 → (b : Bool) → bit bit1 l ≡ b → P (cond b constructor method)
+    go k true t = c (not-member l k t)
+    go k false t = m
+
+-- a constructor isn't a decorated member
+pub no-member : (b : Bool) (l : Label) (k : Trees) → isMember l ≡ false → (b && isDecoratedMember l k) ≡ false
+unfolding isDecoratedMember
+no-member true l k e = rw e
+no-member false l k e = refl
+
 after-element : (l : Label) (around : Around) (k : Trees) (s : State) → 2 ≤ countF k → isElementKind (l .kind) ≡ true →
     visitOne around l k s .after ≡ memberAfter (around .live && isDecoratedMember l k) (hasPlainKey k) (around .id) (visit around k s .after)
-unfolding isElementKind
 after-element l around k s h e =
-    or-cases (eqb (l .kind) 30) (eqb (l .kind) 31) (eqb (l .kind) 32) e _
-    (λ t. after-30 l around k s h (eqb-true _ 30 t)) (λ t. after-31 l around k s h (eqb-true _ 31 t)) (λ t. after-32 l around k s h (eqb-true _ 32 t))
+    role-element l
+    (λ (r : Role). roleOf l ≡ r → visitOne around l k s .after ≡ memberAfter (around .live && isDecoratedMember l k) (hasPlainKey k) (around .id) (visit around k s .after)) e
+    (λ m r. after-constructor around l k s r ∙ sym (member-none (around .live && isDecoratedMember l k) (hasPlainKey k) (around .id) (visit around k s .after) (no-member (around .live) l k m)))
+    (after-method around l k s h) (after-field around l k s h) refl
 
 below-4 : (q : Slot) (p : ℕ) → slotsBelow q 4 p ≡ classUnder p ∷ []
 unfolding slotsBelow slots rowOf table lookup row
@@ -156,13 +151,16 @@ module _ (ws : List ℕ) (whole : Fits (module′ ∷ []) (recordsAt ws 0)) (at 
   pub kids-count : countF (kidsAt ws at) ≡ arityAt ws at
   kids-count = fits-count _ _ (standing .kids) ∙ sym (arity-slots ws at standing)
 
-  -- the state behind a method, constructor, property or accessor
+  -- a method, constructor, property or accessor has two children or more
+  pub element-two : isElementKind (labelAt ws at .kind) ≡ true → 2 ≤ countF (kidsAt ws at)
+  element-two e =
+      let n : countF (kidsAt ws at) ≡ children (labelAt ws at .kind) (labelAt ws at .payload) = kids-count ∙ (unfold arityAt arity in refl) in
+      omega (arith, n, two-children (labelAt ws at .kind) (labelAt ws at .payload) e)
+
+  -- the state behind it
   pub element-after : (around : Around) (s : State) → isElementKind (labelAt ws at .kind) ≡ true → visitOne around (labelAt ws at) (kidsAt ws at) s .after ≡
       memberAfter (around .live && isDecoratedMember (labelAt ws at) (kidsAt ws at)) (hasPlainKey (kidsAt ws at)) (around .id) (visit around (kidsAt ws at) s .after)
-  element-after around s e =
-      let n : countF (kidsAt ws at) ≡ children (labelAt ws at .kind) (labelAt ws at .payload) = kids-count ∙ (unfold arityAt arity in refl) in
-      let two : 2 ≤ countF (kidsAt ws at) = omega (arith, n, two-children (labelAt ws at .kind) (labelAt ws at .payload) e) in
-      after-element (labelAt ws at) around (kidsAt ws at) s two e
+  element-after around s e = after-element (labelAt ws at) around (kidsAt ws at) s (element-two e) e
 
   -- ---- a class statement
 

@@ -1,0 +1,39 @@
+-- `plan_at`: the state behind the class's children is found by counting.
+use borrow.Author.Needs.{needs}
+use Rattle.counter.specs.Steps.{ready-next}
+use Rattle.transform.specs.Plans.{plan-default, plan-next, plans}
+use Rattle.transform.proofs.plan_at.Statement.{statement}
+use Rattle.transform.proofs.plan_at.Tie as tie
+
+add-class-id : tie.Need-add-class-id
+add-class-id c = search needs
+
+class-id-requires : tie.Need-class-id-requires
+class-id-requires c κs = search needs
+
+add-count-records : tie.Need-add-count-records
+add-count-records c = search needs
+
+count-records-requires : tie.Need-count-records-requires
+count-records-requires c κs = ready-next (c .before .before .before .pre .0) (c .before .before .before .pre .1)
+
+plan-requires : tie.Need-plan-requires
+plan-requires c κs =
+    let p = c .before .before .before .before .pre in
+    (p .0 .few, p .1, p .0 .planned .long, plan-next (p .0) (p .1) (p .2) (p .3) _ (c .before .class-id .ensures .0) (c .count-records .ensures), plan-default (p .0) (p .1) (p .2) (p .3) _ (c .before .class-id .ensures .0) (c .count-records .ensures))
+
+returns : tie.Need-returns
+returns c =
+    let p = c .before .before .before .before .before .pre in
+    plans (p .0) (p .1) (p .2) (p .3) _ (c .before .before .class-id .ensures .0) (c .before .count-records .ensures) (c .plan .ensures)
+
+pub plan-at-spec : {M : Type 1} → statement M
+plan-at-spec =
+    tie.close
+    (tie.spec
+    add-class-id
+    class-id-requires
+    add-count-records
+    count-records-requires
+    plan-requires
+    returns)

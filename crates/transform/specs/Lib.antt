@@ -1,0 +1,11 @@
+pub mod Under
+pub mod Nest
+pub mod Contract
+pub mod ClassWords
+pub mod Leaves
+pub mod Plans
+pub mod Steps
+pub mod StepsClasses
+pub mod StepsRecords
+pub mod StepsCalls
+pub mod StepsMembers
