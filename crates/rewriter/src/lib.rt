@@ -1,0 +1,93 @@
+// The public call: a module's words rewritten, every refusal in its order. Reads the words, writes the output only once it is known to be long enough.
+use counter::Count;
+use counter::Scope;
+use inspect::NONE;
+ghost use mathlib.Core.Path.{_≡_};
+ghost use mathlib.Core.List.{List};
+ghost use Prim.Native.Nat.{ℕ};
+ghost use lib.ListN.{length, take};
+ghost use Rattle.grammar.specs.Scan.{refusal, symbolsOf};
+ghost use Rattle.rewriting.specs.Answer.{turnedBack, moduleWords, rewriteAnswer, rewriteLent};
+ghost use Rattle.rewriting.specs.DemandWords.{DemandWords};
+ghost use Rattle.output.specs.Overlay.{Wrote};
+ghost use Rattle.counter.specs.Contract.{Planned};
+ghost use Rattle.rewriter.specs.Numbers.{numbersOf};
+ghost use Rattle.rewriter.specs.Result.{Writes};
+
+// The three numbers of an answer: the refusal, or 0; the words written; the fresh symbols.
+pub struct Answer {
+    pub code: u32,
+    pub written: usize,
+    pub fresh: u32,
+}
+
+// Rewrites the module in `ws`; the answer's words go to the start of `out`.
+pub fn rewrite(ws: &[u32], out: &mut [u32]) -> Answer
+    ensures numbers { λ r. ⌜ numbersOf r ≡ rewriteAnswer (now (ws .entry)) (now (out .entry)) ⌝ }
+    ensures lent { λ r. ⌜ now (out .exit) ≡ rewriteLent (now (ws .entry)) (now (out .entry)) ⌝ }
+    ensures demand { λ r. ⌜ (r .code ≡ 0 → DemandWords (now (ws .entry)) (take (r .written) (now (out .exit)))) ⌝ }
+{
+    let v = turned_back(ws);
+    if v != 0 {
+        return Answer {
+            code: v,
+            written: 0,
+            fresh: 0,
+        };
+    }
+    let mut aliases = [0u8; 4096];
+    alias_table::find_aliases(ws, &mut aliases);
+    let mut none = [0u32; 0];
+    let m = write_module(ws, &aliases, &mut none);
+    if out.len() < m.pos {
+        return Answer {
+            code: 8,
+            written: 0,
+            fresh: 0,
+        };
+    }
+    let r = write_module(ws, &aliases, out);
+    Answer {
+        code: 0,
+        written: r.pos,
+        fresh: r.next - inspect::payload_at(ws, 1),
+    }
+}
+
+// Refusals 1 to 7, or 0.
+pub fn turned_back(ws: &[u32]) -> u32
+    ensures { λ r. ⌜ r ≡ turnedBack (now (ws .entry)) ⌝ }
+{
+    let v = validation::number(validation::validate(ws));
+    if v != 0 {
+        return v;
+    }
+    if inspect::refused_7(ws) {
+        return 7;
+    }
+    0
+}
+
+// What the module becomes, at the start of the output, cut where that ends.
+fn write_module(ws: &[u32], aliases: &[u8], out: &mut [u32]) -> transform::Went
+    requires { ⌜ (refusal (now ws) ≡ 0) × Planned (now ws) (now aliases) ⌝ }
+    ensures { λ r. ⌜ Writes (now (ws .entry)) (now (out .entry)) (now (out .exit)) r ⌝ }
+{
+    let s = inspect::payload_at(ws, 1);
+    transform::record(
+        ws,
+        aliases,
+        0,
+        Scope {
+            live: false,
+            id: NONE,
+        },
+        Count {
+            next: s,
+            default: NONE,
+        },
+        class_stack::empty(),
+        out,
+        0,
+    )
+}
