@@ -2,8 +2,8 @@
 use Prim.Native.Nat.{_-_, _≤_}
 use native.Mathlib.Omega.{arith}
 use lib.ListN.{length}
-use Rattle.validation_cases.proofs.find.Statement.{statement}
-use Rattle.validation_cases.proofs.find.Tie as tie
+use Rattle.case_lines.proofs.find.Statement.{statement}
+use Rattle.case_lines.proofs.find.Tie as tie
 
 abbrev Inv-loop : tie.InvT-loop
 Inv-loop text from b i₀ i = (from ≤ i) × (i ≤ length text)
@@ -11,31 +11,31 @@ Inv-loop text from b i₀ i = (from ≤ i) × (i ≤ length text)
 abbrev μ-loop : tie.MeasureT-loop
 μ-loop text from b i₀ i = length text - i
 
--- src/main.rt:199:5
+-- src/lib.rt:199:5
 loop-holds : tie.Need-loop-holds Inv-loop μ-loop
 loop-holds c = omega (arith, c .pre)
 
--- src/main.rt:200:12
+-- src/lib.rt:200:12
 shared-slice-read-if1 : tie.Need-shared-slice-read-if1 Inv-loop μ-loop
 shared-slice-read-if1 c = omega (arith, c .before .loop-test .taken)
 
--- src/main.rt:201:13
+-- src/lib.rt:201:13
 returns : tie.Need-returns Inv-loop μ-loop
 returns c = omega (arith, c .before .before .loop-test .taken, c .before .before .before .loop .inv)
 
--- src/main.rt:203:9
+-- src/lib.rt:203:9
 add-i : tie.Need-add-i Inv-loop μ-loop
 add-i c = omega (arith, c .before .before .loop-test .taken, c .before .before .before .before .good)
 
--- src/main.rt:199:5
+-- src/lib.rt:199:5
 loop-less : tie.Need-loop-less Inv-loop μ-loop
 loop-less c = omega (arith, c .before .before .loop-test .taken)
 
--- src/main.rt:199:5
+-- src/lib.rt:199:5
 loop-again : tie.Need-loop-again Inv-loop μ-loop
 loop-again c = omega (arith, c .before .before .loop-test .taken, c .before .before .before .loop .inv)
 
--- src/main.rt:194:1
+-- src/lib.rt:194:1
 returns-2 : tie.Need-returns-2 Inv-loop μ-loop
 returns-2 c = omega (arith, c .loop-test .left, c .before .loop .inv)
 
