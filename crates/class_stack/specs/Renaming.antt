@@ -1,15 +1,13 @@
 -- Rule 6 under several classes: each class around that has an alias replaces its symbol by it, the innermost first. Assumes nothing.
 use mathlib.Core.Path.{_≡_, refl, ap, sym, _∙_}
 use mathlib.Core.Bool.{Bool, true, false, cond, _||_}
-use mathlib.Core.Option.{some}
-use mathlib.Core.List.{List, [], _∷_, _++_, map, map-append}
+use mathlib.Core.List.{List, [], _∷_}
 use Prim.Native.Nat.{ℕ, zero, suc, _+_, _<_, _≤_}
 use lib.Dec.{eqb}
-use lib.ListN.{length, getD, length-map}
+use lib.ListN.{length, getD}
 use Rattle.words.specs.Word.{wordOf}
-use Rattle.records.specs.Forest.{end, node, flat, size, appendF, mapF, flat-append, flat-map}
-use Rattle.records.specs.Label.{Label, Trees, repay, is, wordAt, words, words-append, length-words, _∶_}
-use Rattle.rewriting.specs.Visit.{isRef, toAlias, renamed}
+use Rattle.records.specs.Label.{Label, repay, is, wordAt, _∶_}
+use Rattle.rewriting.specs.Visit.{isRef, toAlias}
 use Rattle.class_stack.specs.declared.ClassStack.{ClassStack}
 
 -- a class's symbol, and the alias that replaces it
@@ -21,10 +19,6 @@ pub record Sub : Type 0 where
 unfoldable pub renameL : List Sub → Label → Label
 renameL [] l = l
 renameL (s ∷ ss) l = renameL ss (toAlias (s .symbol) (s .alias) l)
-
--- the words of records under the classes around
-unfoldable pub written : List Sub → Trees → List ℕ
-written ss f = words (map (renameL ss) (flat f))
 
 -- ---- a stack's substitutions, the last entry first
 
@@ -102,61 +96,3 @@ module _ (ss : List Sub) (k p : ℕ) where
       let t : (is 9 (k ∶ p) || is 18 (k ∶ p)) ≡ false = unfold is _∶_ in e in
       let f : wordOf k p ≡ wordAt (k ∶ p) = unfold wordAt _∶_ in refl in
       f ∙ ap wordAt (sym (rename-other ss (k ∶ p) t))
-
--- where a label was read does not matter
-pub word-anywhere : (ss : List Sub) (l : Label) → wordAt (renameL ss (l .kind ∶ l .payload)) ≡ wordAt (renameL ss l)
-word-anywhere ss l = go (is 9 l || is 18 l) refl
-  where
-    same : (is 9 (l .kind ∶ l .payload) || is 18 (l .kind ∶ l .payload)) ≡ (is 9 l || is 18 l)
-    same = unfold is _∶_ in refl
-
-    go : (b : Bool) → (is 9 l || is 18 l) ≡ b → wordAt (renameL ss (l .kind ∶ l .payload)) ≡ wordAt (renameL ss l)
-    go true e =
-        let f : wordAt (repay (l .kind ∶ l .payload) (renameP ss ((l .kind ∶ l .payload) .payload))) ≡ wordAt (repay l (renameP ss (l .payload))) = unfold wordAt repay _∶_ in refl in
-        ap wordAt (rename-ref ss (l .kind ∶ l .payload) (same ∙ e)) ∙ f ∙ sym (ap wordAt (rename-ref ss l e))
-    go false e =
-        let f : wordAt (l .kind ∶ l .payload) ≡ wordAt l = unfold wordAt _∶_ in refl in
-        ap wordAt (rename-other ss (l .kind ∶ l .payload) (same ∙ e)) ∙ f ∙ sym (ap wordAt (rename-other ss l e))
-
--- ---- what is written
-
-map-same : (ls : List Label) → map (renameL []) ls ≡ ls
-unfolding renameL
-map-same [] = refl
-map-same (l ∷ ls) = ap (l ∷_) (map-same ls)
-
-map-first : (s : Sub) (ss : List Sub) (ls : List Label) → map (renameL (s ∷ ss)) ls ≡ map (renameL ss) (map (toAlias (s .symbol) (s .alias)) ls)
-unfolding renameL
-map-first s ss [] = refl
-map-first s ss (l ∷ ls) = ap (renameL ss (toAlias (s .symbol) (s .alias) l) ∷_) (map-first s ss ls)
-
-pub written-none : (f : Trees) → written [] f ≡ words (flat f)
-unfolding written
-written-none f = ap words (map-same (flat f))
-
-pub written-end : (ss : List Sub) → written ss end ≡ []
-unfolding written words flat
-written-end ss = refl
-
-pub written-node : (ss : List Sub) (l : Label) (kids rest : Trees) → written ss (node l kids rest) ≡ wordAt (renameL ss l) ∷ written ss kids ++ written ss rest
-unfolding written words flat
-written-node ss l kids rest =
-    ap (λ (ls : List Label). wordAt (renameL ss l) ∷ map wordAt ls) (map-append (renameL ss) (flat kids) (flat rest))
-    ∙ ap (wordAt (renameL ss l) ∷_) (map-append wordAt (map (renameL ss) (flat kids)) (map (renameL ss) (flat rest)))
-
-pub written-append : (ss : List Sub) (f g : Trees) → written ss (appendF f g) ≡ written ss f ++ written ss g
-unfolding written
-written-append ss f g = rw (flat-append, map-append, words-append)
-
-pub length-written : (ss : List Sub) (f : Trees) → length (written ss f) ≡ size f
-unfolding written size
-length-written ss f = rw (length-words, length-map)
-
--- rule 6: one class more around is its replacement under the others
-pub written-push : (s : Sub) (ss : List Sub) (f : Trees) → written (s ∷ ss) f ≡ written ss (mapF (toAlias (s .symbol) (s .alias)) f)
-unfolding written
-written-push s ss f = rw (flat-map) (ap words (map-first s ss (flat f)))
-
-pub written-alias : (c b : ℕ) (ss : List Sub) (f : Trees) → written (record { symbol = c; alias = b } ∷ ss) f ≡ written ss (renamed c (some b) f)
-unfolding renamed
-written-alias c b ss f = written-push (record { symbol = c; alias = b }) ss f

@@ -103,14 +103,6 @@ module _ (ws : List ℕ) (at k j : ℕ) (e : j ≡ before constructs k (recordsA
   pub first-place : j < k → firstConstructor (takeF k (recordsAt ws at)) ≡ ofParameters 0 (parametersOf (kidsAt ws (endOf ws at j)))
   first-place h = ap firstConstructor (before-row constructs ws at k j e h) ∙ first-here (takeF j (recordsAt ws at)) _ _ _ (before-others constructs ws at k j e) (is-first h)
 
-  pub bare-missing : k ≤ j → bareFirst (takeF k (recordsAt ws at)) ≡ takeF k (recordsAt ws at)
-  bare-missing h = bare-none (takeF k (recordsAt ws at)) (before-all constructs ws at k j e h)
-
-  pub bare-place : j < k → bareFirst (takeF k (recordsAt ws at)) ≡
-      appendF (takeF j (recordsAt ws at))
-      (node (labelAt ws (endOf ws at j)) (bareMethod (kidsAt ws (endOf ws at j))) (takeF (k - j - 1) (recordsAt ws (endOf ws (endOf ws at j) 1))))
-  bare-place h = ap bareFirst (before-row constructs ws at k j e h) ∙ bare-here (takeF j (recordsAt ws at)) _ _ _ (before-others constructs ws at k j e) (is-first h)
-
 -- ---- words: a constructor and a static element are so wherever they were read
 
 pub constructor-at : (ws : List ℕ) (at w : ℕ) → w ≡ getD ws at 0 → isConstructor (readAt 0 w) ≡ isConstructor (labelAt ws at)

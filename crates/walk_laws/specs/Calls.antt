@@ -51,10 +51,6 @@ parameters-one : (i : ℕ) (l : Label) (k : Trees) → ofParameters i (tree l k)
 unfolding ofParameters tree
 parameters-one i l k = appendF-end (indexed i (decorators k))
 
-parameters-first : (i : ℕ) (l : Label) (k r : Trees) → ofParameters i (node l k r) ≡ appendF (indexed i (decorators k)) (ofParameters (suc i) r)
-unfolding ofParameters
-parameters-first i l k r = refl
-
 -- ---- a member by its kind
 
 descriptor-word : (word : ℕ → ℕ → ℕ) (l : Label) → wordBy word (descriptorBy l) ≡ word (cond (is 31 l) 14 13) 0
@@ -227,19 +223,6 @@ module _ (word : ℕ → ℕ → ℕ) (ws : List ℕ) (around : Around) where
         ap (ofParameters i) (plain-here ws around at s h (plain-37 (labelAt ws at) e))
         ∙ parameters-one i (labelAt ws at) k
         ∙ ap (indexed i) (marked-decorators ws around at s (parameter-marked ws at whole h e))
-
-    -- and those of the k parameters behind it
-    pub of-more : (i k : ℕ) → labelAt ws at .kind ≡ 37 →
-        ofParameters i (visitAt ws at (1 + k) around s .here) ≡
-        appendF (indexed i (visitAt ws (at + 2) (arityAt ws (at + 1)) around s .here))
-        (ofParameters (suc i) (visitAt ws (endOf ws at 1) k around (visitAt ws at 1 around s .after) .here))
-    of-more i k e =
-        let l : Label = labelAt ws at in
-        let x : Trees = visit around (kidsAt ws at) s .here in
-        let r : Trees = visitAt ws (endOf ws at 1) k around (visitAt ws at 1 around s .after) .here in
-        ap (ofParameters i) (here-first ws around at k s l x (plain-here ws around at s h (plain-37 l e)))
-        ∙ parameters-first i l x r
-        ∙ ap (λ (f : Trees). appendF (indexed i f) (ofParameters (suc i) r)) (marked-decorators ws around at s (parameter-marked ws at whole h e))
 
     -- ---- members
 

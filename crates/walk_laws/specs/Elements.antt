@@ -130,12 +130,6 @@ module _ (ws : List ℕ) (at : ℕ) where
     pub marked-end : Marked ws at → endOf ws at 1 ≡ endOf ws (endOf ws (at + 1) 1) (arityAt ws at - 1)
     marked-end m = end-one ws at h ∙ ap (endOf ws (at + 1)) (m .count) ∙ end-add ws (at + 1) 1 (arityAt ws at - 1)
 
-    keyed-end : Keyed ws at → endOf ws at 1 ≡ endOf ws (endOf ws (endOf ws (at + 1) 1) 1) (arityAt ws at - 2)
-    keyed-end y = marked-end (y .marked) ∙ ap (endOf ws (endOf ws (at + 1) 1)) (y .count) ∙ end-add ws (endOf ws (at + 1) 1) 1 (arityAt ws at - 2)
-
-    pub called-end : Called ws at → endOf ws at 1 ≡ endOf ws (endOf ws (endOf ws (endOf ws (at + 1) 1) 1) 1) (arityAt ws at - 3)
-    called-end c = keyed-end (c .keyed) ∙ ap (endOf ws (endOf ws (endOf ws (at + 1) 1) 1)) (c .count) ∙ end-add ws (endOf ws (endOf ws (at + 1) 1) 1) 1 (arityAt ws at - 3)
-
   module _ (whole : Fits (module′ ∷ []) (recordsAt ws 0)) (h : at < length ws) where
     here : Standing ws at
     here = standing-at ws (module′ ∷ []) whole at h
@@ -157,9 +151,6 @@ module _ (ws : List ℕ) (at : ℕ) where
     -- of a 28, a 29 and a 36
     pub decorators-nth : (j : ℕ) → labelAt ws at .kind ≡ 28 → j < arityAt ws at → (endOf ws (at + 1) j < length ws) × Allowed expression (labelAt ws (endOf ws (at + 1) j))
     decorators-nth j e = nth j expression (slots-kind 28 e ∙ below-28 (here .slot) (labelAt ws at .payload))
-
-    pub elements-nth : (j : ℕ) → labelAt ws at .kind ≡ 29 → j < arityAt ws at → (endOf ws (at + 1) j < length ws) × Allowed element (labelAt ws (endOf ws (at + 1) j))
-    elements-nth j e = nth j element (slots-kind 29 e ∙ below-29 (here .slot) (labelAt ws at .payload))
 
     pub parameters-nth : (j : ℕ) → labelAt ws at .kind ≡ 36 → j < arityAt ws at → (endOf ws (at + 1) j < length ws) × (labelAt ws (endOf ws (at + 1) j) .kind ≡ 37)
     parameters-nth j e b =
@@ -243,11 +234,6 @@ module _ (ws : List ℕ) (around : Around) where
   module _ (at : ℕ) (s : State) where
     module _ (m : Marked ws at) where
       -- the states behind the 28 and behind a parameter
-      pub decorators-after : visitAt ws (at + 1) 1 around s .after ≡ visitAt ws (at + 2) (arityAt ws (at + 1)) around s .after
-      decorators-after =
-          let two : at + 1 + 1 ≡ at + 2 = omega arith in
-          plain-after (at + 1) s (m .place) (plain-28 _ (m .kind)) ∙ ap (λ (p : ℕ). visitAt ws p (arityAt ws (at + 1)) around s .after) two
-
       pub parameter-after : at < length ws → labelAt ws at .kind ≡ 37 →
           visitAt ws at 1 around s .after ≡ visitAt ws (endOf ws (at + 1) 1) (arityAt ws at - 1) around (visitAt ws (at + 1) 1 around s .after) .after
       parameter-after h e =
