@@ -62,7 +62,7 @@ module _ (ws : List ℕ) (ok : refusal ws ≡ 0) where
   unfolding stateIn stateOf
   state-start = ap (λ (o : Option ℕ). record { next = symbolsOf ws; default = o }) opt-none
 
-  visit-start : visitAt ws 0 1 (aroundOf startScope) (stateIn (startCount ws)) ≡ visitWords (symbolsOf ws) ws
+  pub visit-start : visitAt ws 0 1 (aroundOf startScope) (stateIn (startCount ws)) ≡ visitWords (symbolsOf ws) ws
   unfolding visitAt visitWords
   visit-start =
       ap (λ (x : Around). visit x (takeF 1 (recordsAt ws 0)) (stateIn (startCount ws))) around-start
@@ -135,33 +135,29 @@ module _ (ws : List ℕ) (ok : refusal ws ≡ 0) where
     pub start-writes-at : (s : ℕ) → s ≡ symbolsOf ws → {o o′ : List ℕ} {r : Went} → Emitted ws 0 1 startScope (record { next = s; default = 67108864 }) c o 0 o′ r → Writes ws o o′ r
     start-writes-at s e {o} {o′} {r} h = start-writes (subst (λ (k : ℕ). Emitted ws 0 1 startScope (record { next = k; default = 67108864 }) c o 0 o′ r) e h)
 
--- ---- the answers
+-- ---- the answers of any call that writes xs
 
-module _ (ws o : List ℕ) where
-  pub answer-back : (v : ℕ) → v ≡ turnedBack ws → (v ≡ 0 → ⊥) → record { code = v; written = 0; fresh = 0 } ≡ rewriteAnswer ws o
-  unfolding rewriteAnswer answerOf refused
+module _ (ws xs o : List ℕ) where
+  pub answer-back : (v : ℕ) → v ≡ turnedBack ws → (v ≡ 0 → ⊥) → record { code = v; written = 0; fresh = 0 } ≡ answerOf ws xs (length o)
+  unfolding answerOf refused
   answer-back v e h = let n : eqb (turnedBack ws) 0 ≡ false = ne-eqb (turnedBack ws) 0 (λ z. h (e ∙ z)) in rw n (ap (λ (x : ℕ). record { code = x; written = 0; fresh = 0 }) e)
 
-  pub answer-8 : turnedBack ws ≡ 0 → length o < length (moduleWords ws) → record { code = 8; written = 0; fresh = 0 } ≡ rewriteAnswer ws o
-  unfolding rewriteAnswer answerOf refused
-  answer-8 e h = rw (eq-eqb (turnedBack ws) 0 e, lt-ltb (length o) (length (moduleWords ws)) h)
+  pub answer-8 : turnedBack ws ≡ 0 → length o < length xs → record { code = 8; written = 0; fresh = 0 } ≡ answerOf ws xs (length o)
+  unfolding answerOf refused
+  answer-8 e h = rw (eq-eqb (turnedBack ws) 0 e, lt-ltb (length o) (length xs) h)
 
-  pub answer-0 : turnedBack ws ≡ 0 → length (moduleWords ws) ≤ length o → record { code = 0; written = length (moduleWords ws); fresh = length (reportWords ws) } ≡ rewriteAnswer ws o
-  unfolding rewriteAnswer answerOf accepted
-  answer-0 e h = rw (eq-eqb (turnedBack ws) 0 e, le-ltb (length o) (length (moduleWords ws)) h)
+  pub answer-0 : turnedBack ws ≡ 0 → length xs ≤ length o → record { code = 0; written = length xs; fresh = length (reportWords ws) } ≡ answerOf ws xs (length o)
+  unfolding answerOf accepted
+  answer-0 e h = rw (eq-eqb (turnedBack ws) 0 e, le-ltb (length o) (length xs) h)
 
-  lent-if : (r : Answer) (n : ℕ) → r .code ≡ n → (n ≡ 0 → ⊥) → o ≡ lentAfter r (moduleWords ws) o
+  -- a refusal leaves the output as it was, whatever was to be written
+  pub lent-back : (r : Answer) → r ≡ answerOf ws xs (length o) → (r .code ≡ 0 → ⊥) → (ys : List ℕ) → o ≡ lentAfter (answerOf ws xs (length o)) ys o
   unfolding lentAfter
-  lent-if r n e h = let f : eqb (r .code) 0 ≡ false = ne-eqb (r .code) 0 (λ z. h (sym e ∙ z)) in rw f
+  lent-back r e h ys = let f : eqb (answerOf ws xs (length o) .code) 0 ≡ false = ne-eqb (answerOf ws xs (length o) .code) 0 (λ z. h (ap (λ (x : Answer). x .code) e ∙ z)) in rw f
 
-  -- a refusal leaves the output as it was
-  pub lent-back : (r : Answer) → r ≡ rewriteAnswer ws o → (r .code ≡ 0 → ⊥) → o ≡ rewriteLent ws o
-  unfolding rewriteLent
-  lent-back r e h = lent-if (rewriteAnswer ws o) (r .code) (ap (λ (x : Answer). x .code) (sym e)) h
-
-  pub lent-0 : (r : Answer) → r ≡ rewriteAnswer ws o → r .code ≡ 0 → overlay o 0 (moduleWords ws) ≡ rewriteLent ws o
-  unfolding rewriteLent lentAfter
-  lent-0 r e z = let f : eqb (rewriteAnswer ws o .code) 0 ≡ true = eq-eqb (rewriteAnswer ws o .code) 0 (ap (λ (x : Answer). x .code) (sym e) ∙ z) in rw f
+  pub lent-0 : (r : Answer) → r ≡ answerOf ws xs (length o) → r .code ≡ 0 → overlay o 0 xs ≡ lentAfter (answerOf ws xs (length o)) xs o
+  unfolding lentAfter
+  lent-0 r e z = let f : eqb (answerOf ws xs (length o) .code) 0 ≡ true = eq-eqb (answerOf ws xs (length o) .code) 0 (ap (λ (x : Answer). x .code) (sym e) ∙ z) in rw f
 
 -- what was written is found again
 take-overlay : (o xs : List ℕ) (at : ℕ) → at + length xs ≤ length o → take (at + length xs) (overlay o at xs) ≡ take at o ++ xs
@@ -184,11 +180,12 @@ demand-written ws o n e k h = subst (DemandWords ws) (sym (ap (λ (i : ℕ). tak
 
 -- an accepted call: its numbers, the output, and demand 3 of the words written
 pub written-whole : (ws o o′ : List ℕ) (r : Went) (p : ℕ) → turnedBack ws ≡ 0 → Writes ws o o′ r → p ≡ symbolsOf ws → length (moduleWords ws) ≤ length o → (record { code = 0; written = r .pos; fresh = r .next - p } ≡ rewriteAnswer ws o) × ((o′ ≡ rewriteLent ws o) × DemandWords ws (take (r .pos) o′))
+unfolding rewriteAnswer rewriteLent
 written-whole ws o o′ r p t w e h =
     let at : r .pos ≡ length (moduleWords ws) = omega (arith, w .wrote .end) in
     let more : r .next - p ≡ length (reportWords ws) = omega (arith, w .next, e) in
-    let n : record { code = 0; written = r .pos; fresh = r .next - p } ≡ rewriteAnswer ws o = ap (λ (k : ℕ). record { code = 0; written = k; fresh = r .next - p }) at ∙ ap (λ (k : ℕ). record { code = 0; written = length (moduleWords ws); fresh = k }) more ∙ answer-0 ws o t h in
-    (n, (w .wrote .list ∙ lent-0 ws o (record { code = 0; written = r .pos; fresh = r .next - p }) n refl, subst (λ (l : List ℕ). DemandWords ws (take (r .pos) l)) (sym (w .wrote .list)) (demand-written ws o (r .pos) t at h)))
+    let n : record { code = 0; written = r .pos; fresh = r .next - p } ≡ rewriteAnswer ws o = ap (λ (k : ℕ). record { code = 0; written = k; fresh = r .next - p }) at ∙ ap (λ (k : ℕ). record { code = 0; written = length (moduleWords ws); fresh = k }) more ∙ answer-0 ws (moduleWords ws) o t h in
+    (n, (w .wrote .list ∙ lent-0 ws (moduleWords ws) o (record { code = 0; written = r .pos; fresh = r .next - p }) n refl, subst (λ (l : List ℕ). DemandWords ws (take (r .pos) l)) (sym (w .wrote .list)) (demand-written ws o (r .pos) t at h)))
 
 -- ---- refusals 1 to 7
 

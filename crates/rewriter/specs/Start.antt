@@ -39,7 +39,7 @@ unfolding Each appendF
 each-append P end g a b = b
 each-append P (node l k r) g a b = (a .0, a .1, each-append P r g (a .2) b)
 
-each-first : (P : Label → Type 0) (l : Label) (k r : Trees) → Each P (node l k r) → P l × Each P k × Each P r
+pub each-first : (P : Label → Type 0) (l : Label) (k r : Trees) → Each P (node l k r) → P l × Each P k × Each P r
 unfolding Each
 each-first P l k r h = h
 
@@ -50,7 +50,7 @@ module _ (P : Label → Type 0) (ws : List ℕ) where
       let w : appendF (kidsAt ws i) (dropF (arityAt ws i) (recordsAt ws (i + 1))) ≡ recordsAt ws (i + 1) = unfold kidsAt in take-drop (arityAt ws i) (recordsAt ws (i + 1)) in
       (f .1, subst (Each P) w (each-append P _ _ (f .1) (f .2)))
 
-  each-at : Each P (recordsAt ws 0) → (i : ℕ) → i ≤ length ws → Each P (recordsAt ws i)
+  pub each-at : Each P (recordsAt ws 0) → (i : ℕ) → i ≤ length ws → Each P (recordsAt ws i)
   each-at e zero h = e
   each-at e (suc i) h = subst (λ (n : ℕ). Each P (recordsAt ws n)) (add-one i) (each-next i (omega arith) (each-at e i (omega arith)) .1)
 

@@ -2,6 +2,7 @@ use Rattle.rewriter.specs.Result.{written-whole}
 use Rattle.rewriter.specs.Result.{answer-back, answer-8, lent-back, symbols-word}
 use Rattle.rewriter.specs.Start.{well, start-fits}
 use Rattle.rewriter.specs.Numbers.{numbersOf}
+use Rattle.rewriting.specs.Answer.{moduleWords, rewriteAnswer, rewriteLent}
 use Rattle.rewriting.specs.Room.{not-turned-back}
 use native.Mathlib.Omega.{arith}
 use mathlib.Core.Path.{sym, _∙_}
@@ -21,11 +22,11 @@ turned-back-requires c κs = search needs
 
 -- src/lib.rt:32:9
 returns : tie.Need-returns
-unfolding numbersOf
+unfolding numbersOf rewriteAnswer rewriteLent
 returns c =
     let g = c .before .before .before .before .args in
-    let n = answer-back (g .ws .now) (g .out .now) (c .before .turned-back .result) (c .before .turned-back .ensures) (c .if1 .taken) in
-    (n, (lent-back (g .ws .now) (g .out .now) (record { code = c .before .turned-back .result; written = 0; fresh = 0 }) n (c .if1 .taken), λ z. absurd (c .if1 .taken z)))
+    let n = answer-back (g .ws .now) (moduleWords (g .ws .now)) (g .out .now) (c .before .turned-back .result) (c .before .turned-back .ensures) (c .if1 .taken) in
+    (n, (lent-back (g .ws .now) (moduleWords (g .ws .now)) (g .out .now) (record { code = c .before .turned-back .result; written = 0; fresh = 0 }) n (c .if1 .taken) (moduleWords (g .ws .now)), λ z. absurd (c .if1 .taken z)))
 
 -- src/lib.rt:39:35
 slice-aggregate-find-aliases : tie.Need-slice-aggregate-find-aliases
@@ -51,12 +52,12 @@ write-module-requires c κs = (not-turned-back (c .before .before .before .befor
 
 -- src/lib.rt:43:9
 returns-2 : tie.Need-returns-2
-unfolding numbersOf
+unfolding numbersOf rewriteAnswer rewriteLent
 returns-2 c =
     let g = c .before .before .before .before .before .before .before .before .before .before .before .before .before .args in
     let t = sym (c .before .before .before .before .before .before .before .before .before .before .turned-back .ensures) ∙ c .before .before .before .before .before .before .before .before .before .if1 .left in
-    let n = answer-8 (g .ws .now) (g .out .now) t (omega (arith, c .before .before .before .write-module .ensures .wrote .end)) in
-    (n, (lent-back (g .ws .now) (g .out .now) (record { code = 8; written = 0; fresh = 0 }) n (λ z. omega arith), λ z. absurd (omega arith)))
+    let n = answer-8 (g .ws .now) (moduleWords (g .ws .now)) (g .out .now) t (omega (arith, c .before .before .before .write-module .ensures .wrote .end)) in
+    (n, (lent-back (g .ws .now) (moduleWords (g .ws .now)) (g .out .now) (record { code = 8; written = 0; fresh = 0 }) n (λ z. omega arith) (moduleWords (g .ws .now)), λ z. absurd (omega arith)))
 
 -- src/lib.rt:49:30
 slice-aggregate-write-module-3 : tie.Need-slice-aggregate-write-module-3

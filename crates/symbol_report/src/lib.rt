@@ -1,0 +1,67 @@
+// The symbol report: one word for each fresh symbol of a module's rewriting, every refusal in its order. Reads the words, writes the output only once it is known to be long enough.
+use counter::Count;
+use counter::Scope;
+use inspect::NONE;
+use report_walk::Reported;
+use rewriter::Answer;
+ghost use mathlib.Core.Path.{_≡_};
+ghost use Rattle.grammar.specs.Scan.{refusal};
+ghost use Rattle.rewriting.specs.Answer.{reportAnswer, ReportLent};
+ghost use Rattle.counter.specs.Contract.{Planned};
+ghost use Rattle.rewriter.specs.Numbers.{numbersOf};
+ghost use Rattle.symbol_report.specs.Result.{WritesReport};
+
+// Writes the report of the module in `ws` to the start of `out`. The order of its words is free.
+pub fn report(ws: &[u32], out: &mut [u32]) -> Answer
+    ensures numbers { λ r. ⌜ numbersOf r ≡ reportAnswer (now (ws .entry)) (now (out .entry)) ⌝ }
+    ensures lent { λ r. ⌜ ReportLent (now (ws .entry)) (now (out .entry)) (now (out .exit)) ⌝ }
+{
+    let v = rewriter::turned_back(ws);
+    if v != 0 {
+        return Answer {
+            code: v,
+            written: 0,
+            fresh: 0,
+        };
+    }
+    let mut aliases = [0u8; 4096];
+    alias_table::find_aliases(ws, &mut aliases);
+    let mut none = [0u32; 0];
+    let m = write_report(ws, &aliases, &mut none);
+    if out.len() < m.pos {
+        return Answer {
+            code: 8,
+            written: 0,
+            fresh: 0,
+        };
+    }
+    let r = write_report(ws, &aliases, out);
+    Answer {
+        code: 0,
+        written: r.pos,
+        fresh: r.next - inspect::payload_at(ws, 1),
+    }
+}
+
+// The module's report, at the start of the output, cut where that ends.
+fn write_report(ws: &[u32], aliases: &[u8], out: &mut [u32]) -> Reported
+    requires { ⌜ (refusal (now ws) ≡ 0) × Planned (now ws) (now aliases) ⌝ }
+    ensures { λ r. ⌜ WritesReport (now (ws .entry)) (now (out .entry)) (now (out .exit)) r ⌝ }
+{
+    let s = inspect::payload_at(ws, 1);
+    report_walk::report_record(
+        ws,
+        aliases,
+        0,
+        Scope {
+            live: false,
+            id: NONE,
+        },
+        Count {
+            next: s,
+            default: NONE,
+        },
+        out,
+        0,
+    )
+}
