@@ -1,0 +1,132 @@
+-- `gingerpost_rewrite`: the two early returns are refusal 1; behind the call, `Called` has all that the rest follows from.
+use Rattle.host.specs.EntryLaws.{Called, answer-odd, answer-many, one-number, one-lent, called-answer, called-fields, called-within, called-length, called-room, called-lent, called-demand, rewriting-called}
+use Rattle.host.specs.Entry.{numberOf, answerIn, rewriteBytes, rewriteBytesLent}
+use Rattle.host.specs.BytesLaws.{length-words}
+use Rattle.host.specs.Bytes.{wordsOfBytes, bytesOfWords}
+use Rattle.rewriter.specs.Numbers.{numbersOf}
+use Rattle.rewriting.specs.DemandWords.{DemandWords}
+use Rattle.rewriting.specs.Answer.{moduleWords}
+use lib.Seq.{length-take-le}
+use lib.ListN.{length, take, replicate}
+use lib.Bits.{and-mask}
+use native.Mathlib.Omega.{arith}
+use Prim.Native.Nat.{ℕ, _≤_}
+use mathlib.Core.List.{List}
+use mathlib.Core.Path.{refl, sym, ap, subst, _∙_}
+use borrow.Author.Needs.{needs}
+use Rattle.host.proofs.gingerpost_rewrite.Statement.{statement}
+use Rattle.host.proofs.gingerpost_rewrite.Tie as tie
+
+buffer : List ℕ
+buffer = replicate 12288 0
+
+-- what is known once the rewriter has returned
+called : (c : tie.After-written2) →
+    Called (c .before .before .before .before .before .before .before .before .before .before .before .before .args .bytes .now) (c .before .before .before .before .before .before .before .before .before .before .before .before .args .out .now)
+    (moduleWords (wordsOfBytes (c .before .before .before .before .before .before .before .before .before .before .before .before .args .bytes .now)))
+    (moduleWords (wordsOfBytes (c .before .before .before .before .before .before .before .before .before .before .before .before .args .bytes .now)))
+    buffer (c .before .rewrite .last .1 .0) (c .before .before .before .before .words-within .result) (numbersOf (c .before .rewrite .result))
+unfolding buffer
+called c =
+    let g = c .before .before .before .before .before .before .before .before .before .before .before .before .args in
+    rewriting-called (g .bytes .now) (g .out .now) _ buffer (c .before .rewrite .last .1 .0) (c .before .before .before .before .words-within .result) (numbersOf (c .before .rewrite .result))
+    (c .before .before .before .before .before .before .pack .ensures)
+    (sym (and-mask (length (g .bytes .now)) 2) ∙ c .before .before .before .before .before .before .before .before .before .if1 .left)
+    (c .before .before .before .before .words-within .ensures)
+    refl
+    (c .before .rewrite .kept .1 .0)
+    (c .before .rewrite .ensures .0)
+    (c .before .rewrite .ensures .1 .0)
+
+returns : tie.Need-returns
+unfolding rewriteBytes rewriteBytesLent answerIn
+returns c =
+    let bs = c .before .before .before .args .bytes .now in
+    let o = c .before .before .before .args .out .now in
+    let e = answer-odd bs (moduleWords (wordsOfBytes bs)) o (λ z. c .if1 .taken (and-mask (length bs) 2 ∙ z)) in
+    (one-number _ e, (one-lent _ (bytesOfWords (moduleWords (wordsOfBytes bs))) o e, λ z. absurd (omega arith)))
+
+returns-2 : tie.Need-returns-2
+unfolding rewriteBytes rewriteBytesLent answerIn
+returns-2 c =
+    let bs = c .before .before .before .before .args .bytes .now in
+    let o = c .before .before .before .before .args .out .now in
+    let e = answer-many bs (moduleWords (wordsOfBytes bs)) o (sym (and-mask (length bs) 2) ∙ c .before .if1 .left) (c .if2 .taken) in
+    (one-number _ e, (one-lent _ (bytesOfWords (moduleWords (wordsOfBytes bs))) o e, λ z. absurd (omega arith)))
+
+slice-aggregate-pack : tie.Need-slice-aggregate-pack
+slice-aggregate-pack c = search needs
+
+pack-requires : tie.Need-pack-requires
+pack-requires c κs = search needs
+
+words-within-requires : tie.Need-words-within-requires
+words-within-requires c κs = search needs
+
+array-share-prefix-ws : tie.Need-array-share-prefix-ws
+array-share-prefix-ws c = search needs
+
+slice-aggregate-rewrite : tie.Need-slice-aggregate-rewrite
+slice-aggregate-rewrite c = sym (ap length (c .before .before .before .pack .ensures) ∙ length-words (c .before .before .before .before .before .before .before .before .before .args .bytes .now))
+
+array-borrow-prefix-written : tie.Need-array-borrow-prefix-written
+array-borrow-prefix-written c = search needs
+
+slice-aggregate-rewrite-2 : tie.Need-slice-aggregate-rewrite-2
+unfolding buffer
+slice-aggregate-rewrite-2 c =
+    let h : c .before .before .words-within .result ≤ 12288 = omega (arith, c .before .before .words-within .ensures) in
+    sym (length-take-le (c .before .before .words-within .result) buffer h)
+
+rewrite-requires : tie.Need-rewrite-requires
+rewrite-requires c κs = search needs
+
+array-share-prefix-written : tie.Need-array-share-prefix-written
+unfolding numbersOf buffer
+array-share-prefix-written c = called-within (called c)
+
+slice-aggregate-unpack : tie.Need-slice-aggregate-unpack
+unfolding numbersOf buffer
+slice-aggregate-unpack c = called-length (called (c .before))
+
+unpack-requires : tie.Need-unpack-requires
+unfolding numbersOf buffer
+unpack-requires c κs = called-room (called (c .before .before))
+
+number-requires : tie.Need-number-requires
+number-requires c κs = called-fields (called (c .before .before .before .before .before))
+
+same-length : tie.Need-same-length
+same-length c = search needs
+
+returns-3 : tie.Need-returns-3
+unfolding rewriteBytes rewriteBytesLent numbersOf buffer
+returns-3 c =
+    let k = called (c .before .before .before .before .before .before) in (
+      c .number .ensures ∙ ap numberOf (called-answer k),
+      (
+        called-lent k (c .before .before .before .unpack .ensures .0),
+        called-demand k (c .number .result) (c .number .ensures) (λ z. subst (λ l. DemandWords l (take (c .before .before .before .before .before .before .before .rewrite .result .written) (c .before .before .before .before .before .before .before .rewrite .last .1 .0))) (c .before .before .before .before .before .before .before .before .before .before .before .before .pack .ensures) (c .before .before .before .before .before .before .before .rewrite .ensures .1 .1 z)) (c .before .before .before .unpack .ensures .0) (c .before .before .before .unpack .ensures .1),
+      ),
+    )
+
+pub gingerpost-rewrite-spec : {M : Type 1} → statement M
+gingerpost-rewrite-spec =
+    tie.close
+    (tie.spec
+    returns
+    returns-2
+    slice-aggregate-pack
+    pack-requires
+    words-within-requires
+    array-share-prefix-ws
+    slice-aggregate-rewrite
+    array-borrow-prefix-written
+    slice-aggregate-rewrite-2
+    rewrite-requires
+    array-share-prefix-written
+    slice-aggregate-unpack
+    unpack-requires
+    number-requires
+    same-length
+    returns-3)

@@ -1,0 +1,4 @@
+pub mod Bytes
+pub mod Entry
+pub mod BytesLaws
+pub mod EntryLaws

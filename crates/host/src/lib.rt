@@ -1,0 +1,100 @@
+// The C entry: a module's bytes in, the bytes of what it becomes out, one number back. Keeps nothing between calls.
+use rewriter::Answer;
+ghost use mathlib.Core.Path.{_≡_};
+ghost use Prim.Native.Nat.{_+_, _*_, _/_, _≤_, min};
+ghost use lib.ListN.{length, take};
+ghost use Rattle.output.specs.Overlay.{overlay};
+ghost use Rattle.rewriting.specs.DemandWords.{DemandWords};
+ghost use Rattle.rewriter.specs.Numbers.{numbersOf};
+ghost use Rattle.host.specs.Bytes.{wordFrom, wordsOfBytes, bytesFrom, bytesOfWords, Small};
+ghost use Rattle.host.specs.Entry.{numberOf, InFields, answerIn, rewriteBytes, rewriteBytesLent};
+
+// Rewrites the module in `bytes`; the answer's bytes go to the start of `out`. The number holds the three answers.
+#[no_mangle]
+pub extern "C" fn gingerpost_rewrite(bytes: &[u8], out: &mut [u8]) -> u64
+    ensures number { λ r. ⌜ r ≡ numberOf (rewriteBytes (now (bytes .entry)) (now (out .entry))) ⌝ }
+    ensures lent { λ r. ⌜ now (out .exit) ≡ rewriteBytesLent (now (bytes .entry)) (now (out .entry)) ⌝ }
+    ensures demand { λ r. ⌜ (answerIn r .code ≡ 0 → DemandWords (wordsOfBytes (now (bytes .entry))) (take (answerIn r .written) (wordsOfBytes (now (out .exit))))) ⌝ }
+{
+    if bytes.len() & 3 != 0 {
+        return 1;
+    }
+    // Over 4,096 words.
+    if 16384 < bytes.len() {
+        return 1;
+    }
+    let n = bytes.len() >> 2;
+    let mut ws = [0u32; 4096];
+    pack(bytes, &mut ws);
+    let room = words_within(out.len(), 12288);
+    // A rewritten module has at most three times the words read (`module-length`).
+    let mut written = [0u32; 12288];
+    let r = rewriter::rewrite(&ws[..n], &mut written[..room]);
+    let m = r.written;
+    unpack(&written[..m], out);
+    number(r)
+}
+
+// The words of the bytes, at the start of `ws`.
+fn pack(bytes: &[u8], ws: &mut [u32])
+    requires { ⌜ length (now bytes) ≤ 4 * length (now ws) ⌝ }
+    ensures { λ r. ⌜ take (length (now (bytes .entry)) / 4) (now (ws .exit)) ≡ wordsOfBytes (now (bytes .entry)) ⌝ }
+{
+    let n = bytes.len() >> 2;
+    let mut i = 0;
+    while i < n {
+        let at = 4 * i;
+        ws[i] = word_from(bytes[at], bytes[at + 1], bytes[at + 2], bytes[at + 3]);
+        i += 1;
+    }
+}
+
+// The word of four bytes, lowest first.
+fn word_from(a: u8, b: u8, c: u8, d: u8) -> u32
+    ensures { λ r. ⌜ r ≡ wordFrom a b c d ⌝ }
+{
+    (a as u32) | (b as u32) << 8 | (c as u32) << 16 | (d as u32) << 24
+}
+
+// The bytes of the words, at the start of `out`.
+fn unpack(ws: &[u32], out: &mut [u8])
+    requires { ⌜ 4 * length (now ws) ≤ length (now out) ⌝ }
+    ensures bytes { λ r. ⌜ now (out .exit) ≡ overlay (now (out .entry)) 0 (bytesOfWords (now (ws .entry))) ⌝ }
+    ensures small { λ r. ⌜ Small (now (ws .entry)) ⌝ }
+{
+    let mut i = 0;
+    while i < ws.len() {
+        store_word(out, 4 * i, ws[i]);
+        i += 1;
+    }
+}
+
+// The four bytes of a word, lowest first, from `at` on.
+fn store_word(out: &mut [u8], at: usize, w: u32)
+    requires { ⌜ at + 4 ≤ length (now out) ⌝ }
+    ensures { λ r. ⌜ now (out .exit) ≡ overlay (now (out .entry)) at (bytesFrom w) ⌝ }
+{
+    out[at] = (w & 255) as u8;
+    out[at + 1] = (w >> 8 & 255) as u8;
+    out[at + 2] = (w >> 16 & 255) as u8;
+    out[at + 3] = (w >> 24 & 255) as u8;
+}
+
+// The whole words of so many bytes, but no more than `most`.
+fn words_within(bytes: usize, most: usize) -> usize
+    ensures { λ r. ⌜ r ≡ min (bytes / 4) most ⌝ }
+{
+    let n = bytes >> 2;
+    if most < n {
+        return most;
+    }
+    n
+}
+
+// The number that holds an answer's three.
+fn number(a: Answer) -> u64
+    requires { ⌜ InFields (numbersOf a) ⌝ }
+    ensures { λ r. ⌜ r ≡ numberOf (numbersOf a) ⌝ }
+{
+    (a.code as u64) | (a.written as u64) << 8 | (a.fresh as u64) << 36
+}
