@@ -31,7 +31,7 @@ subs s = entries (s .symbols) (s .aliases) (s .depth)
 
 -- how many classes deep: the length of the arrays
 abbrev pub capacity : ℕ
-capacity = 64
+capacity = 16
 
 -- an array of payloads
 pub record Payloads (l : List ℕ) : Type 0 where

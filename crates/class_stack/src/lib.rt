@@ -6,7 +6,7 @@ ghost use Rattle.records.specs.Label.{wordAt, _∶_};
 ghost use Rattle.class_stack.specs.Renaming.{Ready, capacity, subs, swapped, renameP, renameL};
 
 // How many classes deep.
-pub const CAPACITY: usize = 64;
+pub const CAPACITY: usize = 16;
 
 pub struct ClassStack {
     pub symbols: [u32; CAPACITY],

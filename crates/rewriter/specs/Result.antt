@@ -26,7 +26,7 @@ use Rattle.rewriting.specs.Parts.{anyRecord, isRefused7}
 use Rattle.rewriting.specs.Answer.{Answer, accepted, refused, turnedBack, moduleWords, reportWords, answerOf, lentAfter, rewriteAnswer, rewriteLent}
 use Rattle.rewriting.specs.DemandWords.{DemandWords}
 use Rattle.rewriting.specs.DemandAccepted.{demand-words}
-use Rattle.class_stack.specs.Renaming.{Sub, Ready as StackReady, entries, subs}
+use Rattle.class_stack.specs.Renaming.{Sub, capacity, Ready as StackReady, entries, subs}
 use Rattle.class_stack.specs.declared.ClassStack.{ClassStack}
 use Rattle.inspect.specs.Child.{optOf, opt-none}
 use Rattle.walk_laws.specs.Rows.{visitAt}
@@ -109,8 +109,8 @@ module _ (ws : List ℕ) (ok : refusal ws ≡ 0) where
     unfolding nestAt
     start-tree = ap nest (whole-record ws ok ∙ sym (records-module ws) ∙ records-tree ws)
 
-    start-nest : nestAt ws 0 1 ≤ 64
-    start-nest = omega (arith, start-tree, nest-height (treeOf ws), well ws ok .depth)
+    start-nest : nestAt ws 0 1 ≤ capacity
+    start-nest = omega (arith, start-tree, nest-height (treeOf ws) (well ws ok .fits), well ws ok .depth)
 
     pub start-asks : (aliases : List ℕ) → Planned ws aliases → StackReady c → Asks ws aliases 0 1 (symbolsOf ws) c 0 (size (hereAt ws 0 1 startScope (startCount ws)))
     start-asks aliases p r = record {

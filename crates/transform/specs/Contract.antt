@@ -10,7 +10,7 @@ use Rattle.records.specs.Place.{recordsAt, labelAt, arityAt, kidsAt, endOf}
 use Rattle.output.specs.Overlay.{Wrote}
 use Rattle.rewriting.specs.Parts.{isDecoratedMember, hasPlainKey}
 use Rattle.rewriting.specs.Visit.{Around, State, visit}
-use Rattle.class_stack.specs.Renaming.{Sub, Ready as StackReady, subs}
+use Rattle.class_stack.specs.Renaming.{Sub, capacity, Ready as StackReady, subs}
 use Rattle.class_stack.specs.declared.ClassStack.{ClassStack}
 use Rattle.walk_laws.specs.Rows.{visitAt}
 use Rattle.walk_laws.specs.Written.{wordBy, written}
@@ -46,7 +46,7 @@ afterAt ws at k a s = visitAt ws at k (aroundOf a) (stateIn s) .after
 pub record Asks (ws aliases : List ℕ) (at k n : ℕ) (c : ClassStack) (pos len : ℕ) : Type 0 where
   pub ready : Ready ws aliases at n
   pub stack : StackReady c
-  pub deep : c .depth + nestAt ws at k ≤ 64
+  pub deep : c .depth + nestAt ws at k ≤ capacity
   pub fit : pos + len < 67108864
 
 -- words were written, and the walk stands at a place and in a state

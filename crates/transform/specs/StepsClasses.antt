@@ -20,7 +20,7 @@ use Rattle.grammar.specs.Rows.{allowed-row}
 use Rattle.grammar.specs.WellFormed.{Fits}
 use Rattle.rewriting.specs.Parts.{isEmpty, ofParameters, isConstructor, isDecoratedMember, isLive, hasPrivateIn, hasConstructor, firstConstructor, bareFirst, isDecorated}
 use Rattle.rewriting.specs.Visit.{State}
-use Rattle.class_stack.specs.Renaming.{Ready as StackReady}
+use Rattle.class_stack.specs.Renaming.{capacity, Ready as StackReady}
 use Rattle.class_stack.specs.declared.ClassStack.{ClassStack}
 use Rattle.inspect.specs.Row.{anyRow, before, before-place, before-all, before-others}
 use Rattle.inspect.specs.Child.{optOf, opt-none, kind-within}
@@ -430,7 +430,7 @@ module _ {ws aliases : List ℕ} {b : ℕ} {c : ClassStack} {pos : ℕ} (g : Cla
       block-is : blockBy g c ws b s ≡ wordBelow c 33 (g .calls) ∷ wordsOf c (callsAt ws (b + 1) (arityAt ws b) (scopeOf g) s)
       block-is = unfold blockBy in rw e
 
-  pub stack-asks : (q : ℕ) → StackReady r → r .depth ≤ c .depth + 1 → c .depth + 1 + nestAt ws b 1 ≤ 64 → q ≡ pos + 1 + length (frontWords g c) → Asks ws aliases b 1 (s .next) r q (length (elementsBy g r ws b s))
+  pub stack-asks : (q : ℕ) → StackReady r → r .depth ≤ c .depth + 1 → c .depth + 1 + nestAt ws b 1 ≤ capacity → q ≡ pos + 1 + length (frontWords g c) → Asks ws aliases b 1 (s .next) r q (length (elementsBy g r ws b s))
   stack-asks q t d n e = record { ready = f .ready; stack = t; deep = omega arith; fit = omega (arith, body-room) }
 
   -- without and with a block behind the elements
@@ -477,7 +477,7 @@ module _ {ws aliases : List ℕ} {at n : ℕ} {c : ClassStack} {pos len : ℕ} (
       subst (λ (i : ℕ). Asks ws aliases i (arityAt ws (at + 1)) n c q l) e
       (asks-kids (asks-kids f q l refl h z) q l (class-one ws (f .ready .whole) at h kind) (class-in ws (f .ready .whole) at h kind) z)
 
-  inside-deep : c .depth + 1 + nestAt ws (at + 2) (arityAt ws (at + 1)) ≤ 64
+  inside-deep : c .depth + 1 + nestAt ws (at + 2) (arityAt ws (at + 1)) ≤ capacity
   inside-deep =
       let e : at + 1 + 1 ≡ at + 2 = omega arith in
       omega (
@@ -555,7 +555,7 @@ module _ {ws aliases : List ℕ} {at n : ℕ} {c : ClassStack} {pos len : ℕ} (
       pub body-later : at + 2 ≤ b
       body-later = omega (arith, be, body-behind ws (f .ready .whole) at h kind, end-low ws (at + 2) (arityAt ws (at + 1) - 1))
 
-      pub body-deep : c .depth + 1 + nestAt ws b 1 ≤ 64
+      pub body-deep : c .depth + 1 + nestAt ws b 1 ≤ capacity
       body-deep =
           omega (
             arith,

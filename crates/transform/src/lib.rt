@@ -19,7 +19,7 @@ ghost use Rattle.output.specs.Overlay.{Wrote};
 ghost use Rattle.grammar.specs.Grammar.{element};
 ghost use Rattle.grammar.specs.WellFormed.{Allowed};
 ghost use Rattle.rewriting.specs.Parts.{plain, list, constructor, roleOf, bareParameters, indexed, ofParameters, isDecoratedMember, hasPlainKey, isLive};
-ghost use Rattle.class_stack.specs.Renaming.{Ready as StackReady, subs};
+ghost use Rattle.class_stack.specs.Renaming.{capacity, Ready as StackReady, subs};
 ghost use Rattle.inspect.specs.Child.{optOf};
 ghost use Rattle.walk_laws.specs.Rows.{visitAt};
 ghost use Rattle.walk_laws.specs.Written.{written};
@@ -1218,7 +1218,7 @@ fn class_body(
     out: &mut [u32],
     pos: usize,
 ) -> usize
-    requires { ⌜ Asks (now ws) (now aliases) b 1 (s .next) c pos (length (bodyBy g c (now ws) b s)) × (b < length (now ws)) × (labelAt (now ws) b .kind ≡ 29) × (c .depth + 1 + nestAt (now ws) b 1 ≤ 64) × (g .alias ≤ 67108864) × (g .decorated ≡ true → g .outer < 67108864) × (g .calls ≡ countF (callsAt (now ws) (b + 1) (arityAt (now ws) b) (scopeOf g) s)) × (g .decorated ≡ false → optOf (g .alias) ≡ none) × Below (s .next) (optOf (g .id)) × Below (s .next) (optOf (s .default)) ⌝ }
+    requires { ⌜ Asks (now ws) (now aliases) b 1 (s .next) c pos (length (bodyBy g c (now ws) b s)) × (b < length (now ws)) × (labelAt (now ws) b .kind ≡ 29) × (c .depth + 1 + nestAt (now ws) b 1 ≤ capacity) × (g .alias ≤ 67108864) × (g .decorated ≡ true → g .outer < 67108864) × (g .calls ≡ countF (callsAt (now ws) (b + 1) (arityAt (now ws) b) (scopeOf g) s)) × (g .decorated ≡ false → optOf (g .alias) ≡ none) × Below (s .next) (optOf (g .id)) × Below (s .next) (optOf (s .default)) ⌝ }
     ensures { λ r. ⌜ Wrote (now (out .entry)) pos (bodyBy g c (now (ws .entry)) b s) (now (out .exit)) r ⌝ }
 {
     let n = inspect::children_at(ws, b) as u32 + front_count(g) + block_count(g);
@@ -1277,7 +1277,7 @@ fn block_count(g: ClassPlan) -> u32
 
 // Rule 6: in the body the class's symbol is its alias.
 fn body_stack(g: ClassPlan, c: ClassStack) -> ClassStack
-    requires { ⌜ StackReady c × (c .depth < 64) × (g .alias ≤ 67108864) × (g .outer < 67108864 ⊎ (g .alias ≡ 67108864)) ⌝ }
+    requires { ⌜ StackReady c × (c .depth < capacity) × (g .alias ≤ 67108864) × (g .outer < 67108864 ⊎ (g .alias ≡ 67108864)) ⌝ }
     ensures { λ r. ⌜ StackReady r × (r .depth ≤ c .depth + 1) × ((k p : ℕ) → bodyWord g c k p ≡ wordBelow r k p) ⌝ }
 {
     if g.alias == NONE {
