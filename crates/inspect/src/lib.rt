@@ -6,7 +6,7 @@ ghost use Prim.Native.Nat.{_+_, _<_, _≤_};
 ghost use lib.ListN.{getD};
 ghost use Rattle.records.specs.Forest.{end, takeF, anyF};
 ghost use Rattle.records.specs.Label.{is, readAt, _∶_};
-ghost use Rattle.records.specs.Place.{recordsAt, labelAt, arityAt, kidsAt};
+ghost use Rattle.records.specs.Place.{recordsAt, labelAt, arityAt, kidsAt, endOf};
 ghost use Rattle.rewriting.specs.Parts.{isEmpty, decorators, ofParameters, parametersOf, elementsOf, isConstructor, isDecoratedMember, isPlainKey, hasPlainKey, constructorDecorated, hasStatic, firstConstructor, idOf, ofElements, hasPrivateIn, isLive, isDecorated, isDecoratedClass, anyRecord, isRefused7};
 ghost use Rattle.inspect.specs.Row.{anyRow, before};
 ghost use Rattle.inspect.specs.Child.{Found, DecoratorsAt, SecondAt, optOf};
@@ -45,6 +45,39 @@ pub fn children_at(ws: &[u32], i: usize) -> usize
     ensures { λ r. ⌜ (r ≡ arityAt (now (ws .entry)) i) × (r < 67108869) ⌝ }
 {
     words::child_count(word_at(ws, i)) as usize
+}
+
+// ---- the reader
+
+// The words, and the place that is read next: 01's "small reader that keeps the words and its position".
+pub struct Reader<'a> {
+    pub words: &'a [u32],
+    pub at: usize,
+}
+
+impl<'a> Reader<'a> {
+    pub fn new(words: &'a [u32], at: usize) -> Reader<'a>
+        ensures { λ r. ⌜ (r .words ≡ words .entry) × (r .at ≡ at) ⌝ }
+    {
+        Reader { words, at }
+    }
+
+    // The reader behind the next k records.
+    pub fn behind(self, k: usize) -> Reader<'a>
+        ensures { λ r. ⌜ (r .words ≡ self .entry .words) × (r .at ≡ endOf (now (self .entry .words)) (self .entry .at) k) ⌝ }
+    {
+        Reader {
+            words: self.words,
+            at: records::skip(self.words, self.at, k),
+        }
+    }
+
+    // The next word, or 0 past the end.
+    pub fn word(self) -> u32
+        ensures { λ r. ⌜ r ≡ getD (now (self .entry .words)) (self .entry .at) 0 ⌝ }
+    {
+        word_at(self.words, self.at)
+    }
 }
 
 // ---- children, by kind and by position; the end of the words stands for one that is missing
