@@ -49,7 +49,7 @@ pub fn children_at(ws: &[u32], i: usize) -> usize
 
 // ---- the reader
 
-// The words, and the place that is read next: 01's "small reader that keeps the words and its position".
+// The words, and the place that is read next: 01's "small reader that keeps the words and its position". Who isn't a reader himself calls `word_behind`.
 pub struct Reader<'a> {
     pub words: &'a [u32],
     pub at: usize,
@@ -78,6 +78,13 @@ impl<'a> Reader<'a> {
     {
         word_at(self.words, self.at)
     }
+}
+
+// The word behind the k records at `at`, or 0 past the end.
+pub fn word_behind(ws: &[u32], at: usize, k: usize) -> u32
+    ensures { λ r. ⌜ r ≡ getD (now (ws .entry)) (endOf (now (ws .entry)) at k) 0 ⌝ }
+{
+    Reader::new(ws, at).behind(k).word()
 }
 
 // ---- children, by kind and by position; the end of the words stands for one that is missing
