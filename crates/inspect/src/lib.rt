@@ -1,5 +1,5 @@
-// What is asked of records as they are read, by flat loops. Reads the words, writes nothing. Every function takes every place: past the end of the words
-// stands the word 0, and of the k records at a place there are fewer where the words end.
+// The reader, and what is asked of records as they are read, by flat loops. Reads the words, writes nothing. Every function takes every place: past the
+// end of the words stands the word 0, and of the k records at a place there are fewer where the words end.
 ghost use mathlib.Core.Path.{_≡_};
 ghost use mathlib.Core.Bool.{not};
 ghost use Prim.Native.Nat.{_+_, _<_, _≤_};

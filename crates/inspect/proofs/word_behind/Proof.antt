@@ -13,18 +13,17 @@ use prog.Memory.{Memory}
 use prog.Routine.{Routine}
 use prog.Wp.{Heap, Calls, Loops, WpFn, Tables}
 use ghost.Atoms.{Atoms, sem}
-use contract.Lifetimes.{Lfts}
 use contract.Monad.{Fun, fact}
 use contract.Running.{givenOf, tables, tablesOf}
 use types.Kit.{Given, ‵, raw, _⊛_, ⋆, some, later, _$_, _∵_, !, qed, by, move, drop, use1, use2, rewrite, split, join, pick, fsplit, fjoin, suffices, frame, await, done}
 use types.Run.{look, init, forget, stop, from, load, and-then, no-more, land, returns, enter, alloc1, alloc0, params1, pass1, pass0, free1, free0}
 use sound.WpLaws.{FmC, fmOf, WpFn-mono}
-use denote.RattleType.{RattleType, owns}
+use denote.RattleType.{owns}
 use denote.Laws.{Is, shows}
 use denote.Plain.{uint-vals, uint-tells, uint-makes, uint-lawful}
 use denote.Builtin.{u32, usize}
 use denote.Ref.{RefT, NamedLft, now}
-use denote.Signature.{plain, namedLft}
+use denote.Signature.{plain}
 use denote.Slice.{sliceVal, ShrSlice, slice-vals, shr-slice-tells, shr-slice-lawful, shr-slice-copy}
 use denote.Steps.{owned, peeks, heard, nothing}
 use denote.Struct.Laws as LL
@@ -40,6 +39,7 @@ use Rattle.records.specs.Place.{endOf}
 use Rattle.inspect.specs.declared.Reader.{Reader}
 use Rattle.inspect.proofs.Reader as T
 use Rattle.inspect.proofs.Reader.Laws as T′
+use Rattle.inspect.proofs.Held.{B}
 use Rattle.inspect.proofs.Reader.new as new
 use Rattle.inspect.proofs.Reader.new.Symbol as new-def
 use Rattle.inspect.proofs.Reader.new.Symbol.{name as #new}
@@ -56,10 +56,6 @@ use Rattle.inspect.proofs.word_behind.Key.{name as #word-behind}
 use Rattle.inspect.proofs.word_behind as word-behind
 use Rattle.inspect.proofs.word_behind.Statement as stated
 use Rattle.inspect.proofs.word_behind.Code as code
-
--- the reader's type, over the signature's lifetimes
-abbrev B : Lfts 1 → RattleType
-B κs = T.the-row (namedLft 1 0 tt κs)
 
 abbrev stayed : Stays (word-behind.ended .signature .params) (word-behind.ended .kept)
 stayed = (stay-none-slice (0 ∷ []) tt (plain (λ _. u32)) yes, (stay-none (λ _. usize) yes, (stay-none (λ _. usize) yes, tt)))
