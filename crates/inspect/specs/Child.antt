@@ -176,6 +176,12 @@ pub record SecondAt (ws : List ℕ) (at r : ℕ) : Type 0 where
   pub most : r ≤ length ws
   pub place : 1 < arityAt ws at → r ≡ endOf ws (at + 1) 1
 
+-- the word of its second child, or 0 where it has none
+pub record SecondWord (ws : List ℕ) (at w : ℕ) : Type 0 where
+  pub place : ℕ
+  pub second : SecondAt ws at place
+  pub word : w ≡ getD ws place 0
+
 pub decorators-row : (n : ℕ) (f : Trees) → decorators (takeF (suc n) f) ≡ decorators f
 unfolding decorators takeF
 decorators-row n end = refl

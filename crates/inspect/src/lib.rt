@@ -1,15 +1,15 @@
-// What is asked of records as they are read, by flat loops. Reads the words, writes nothing. Every function takes every place: past the end of the words
-// stands the word 0, and of the k records at a place there are fewer where the words end.
+// The reader, and what is asked of records as they are read, by flat loops. Reads the words, writes nothing. Every function takes every place: past the
+// end of the words stands the word 0, and of the k records at a place there are fewer where the words end.
 ghost use mathlib.Core.Path.{_≡_};
 ghost use mathlib.Core.Bool.{not};
 ghost use Prim.Native.Nat.{_+_, _<_, _≤_};
 ghost use lib.ListN.{getD};
 ghost use Rattle.records.specs.Forest.{end, takeF, anyF};
 ghost use Rattle.records.specs.Label.{is, readAt, _∶_};
-ghost use Rattle.records.specs.Place.{recordsAt, labelAt, arityAt, kidsAt};
+ghost use Rattle.records.specs.Place.{recordsAt, labelAt, arityAt, kidsAt, endOf};
 ghost use Rattle.rewriting.specs.Parts.{isEmpty, decorators, ofParameters, parametersOf, elementsOf, isConstructor, isDecoratedMember, isPlainKey, hasPlainKey, constructorDecorated, hasStatic, firstConstructor, idOf, ofElements, hasPrivateIn, isLive, isDecorated, isDecoratedClass, anyRecord, isRefused7};
 ghost use Rattle.inspect.specs.Row.{anyRow, before};
-ghost use Rattle.inspect.specs.Child.{Found, DecoratorsAt, SecondAt, optOf};
+ghost use Rattle.inspect.specs.Child.{Found, DecoratorsAt, SecondWord, optOf};
 ghost use Rattle.inspect.specs.Class.{hasDecorators, constructs, isDecoratedConstructor, isStatic, countCalled};
 ghost use Rattle.inspect.specs.Private.{privateIn, privateInElement};
 
@@ -47,7 +47,48 @@ pub fn children_at(ws: &[u32], i: usize) -> usize
     words::child_count(word_at(ws, i)) as usize
 }
 
-// ---- children, by kind and by position; the end of the words stands for one that is missing
+// ---- the reader
+
+// The words and the place that is read next: 01's "small reader that keeps the words and its position". Its functions are thin ones over `records::skip` and
+// `word_at`; every other caller takes `word_behind`.
+pub struct Reader<'a> {
+    pub words: &'a [u32],
+    pub at: usize,
+}
+
+impl<'a> Reader<'a> {
+    pub fn new(words: &'a [u32], at: usize) -> Reader<'a>
+        ensures { λ r. ⌜ (r .words ≡ words .entry) × (r .at ≡ at) ⌝ }
+    {
+        Reader { words, at }
+    }
+
+    // The reader behind the next k records.
+    pub fn behind(self, k: usize) -> Reader<'a>
+        ensures { λ r. ⌜ (r .words ≡ self .entry .words) × (r .at ≡ endOf (now (self .entry .words)) (self .entry .at) k) ⌝ }
+    {
+        Reader {
+            words: self.words,
+            at: records::skip(self.words, self.at, k),
+        }
+    }
+
+    // The next word, or 0 past the end.
+    pub fn word(self) -> u32
+        ensures { λ r. ⌜ r ≡ getD (now (self .entry .words)) (self .entry .at) 0 ⌝ }
+    {
+        word_at(self.words, self.at)
+    }
+}
+
+// The word behind the k records at `at`, or 0 past the end.
+pub fn word_behind(ws: &[u32], at: usize, k: usize) -> u32
+    ensures { λ r. ⌜ r ≡ getD (now (ws .entry)) (endOf (now (ws .entry)) at k) 0 ⌝ }
+{
+    Reader::new(ws, at).behind(k).word()
+}
+
+// ---- children, by kind and by position; the end of the words stands for the place of one that is missing, 0 for its word
 
 // The first record of a kind among the k records at `at`.
 pub fn find(ws: &[u32], at: usize, k: usize, kind: u32) -> usize
@@ -117,14 +158,14 @@ pub fn decorated(ws: &[u32], at: usize) -> bool
     d + 1 < ws.len()
 }
 
-// The second child of the record at `at`: a member's key, a class's id.
-pub fn second_child(ws: &[u32], at: usize) -> usize
-    ensures { λ r. ⌜ SecondAt (now (ws .entry)) at r ⌝ }
+// The word of the second child of the record at `at`: a member's key, a class's id.
+fn second_word(ws: &[u32], at: usize) -> u32
+    ensures { λ r. ⌜ SecondWord (now (ws .entry)) at r ⌝ }
 {
     if children_at(ws, at) <= 1 {
-        return ws.len();
+        return 0;
     }
-    records::skip(ws, at + 1, 1)
+    word_behind(ws, at + 1, 1)
 }
 
 // ---- members; `at` is the place of a 30, 31 or 32
@@ -223,7 +264,7 @@ pub fn is_plain_key(kind: u32) -> bool
 pub fn plain_key(ws: &[u32], at: usize) -> bool
     ensures { λ r. ⌜ r ≡ hasPlainKey (kidsAt (now (ws .entry)) at) ⌝ }
 {
-    is_plain_key(kind_at(ws, second_child(ws, at)))
+    is_plain_key(words::kind_of(second_word(ws, at)))
 }
 
 // ---- rows of elements: k of them, the first at `at`
@@ -346,11 +387,11 @@ pub fn call_count(ws: &[u32], at: usize, k: usize) -> usize
 pub fn class_id(ws: &[u32], at: usize) -> u32
     ensures { λ r. ⌜ (optOf r ≡ idOf (kidsAt (now (ws .entry)) at)) × (r ≤ 67108864) ⌝ }
 {
-    let q = second_child(ws, at);
-    if kind_at(ws, q) != 27 {
+    let w = second_word(ws, at);
+    if words::kind_of(w) != 27 {
         return NONE;
     }
-    payload_at(ws, q)
+    words::payload_of(w)
 }
 
 // Rule 2: is the class of a statement live?
