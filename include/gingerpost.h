@@ -13,7 +13,8 @@
  * Sizes. A module has at most GINGERPOST_MODULE_MAX bytes. A rewritten module has at most three times the bytes read, a symbol report at most a
  * third of them: an output of that length is never too short, for any module one of GINGERPOST_OUT_MAX or GINGERPOST_REPORT_MAX bytes.
  *
- * Stack. A call takes less than GINGERPOST_STACK bytes of the caller's stack, whatever the module.
+ * Stack. A call takes less than GINGERPOST_STACK bytes of its thread's stack, by measurement; the deepest modules take the most. A thread with a
+ * small stack of its own needs that much, and what the thread itself needs.
  *
  * The calls keep no state, allocate nothing and call nothing but the C library's memory functions. They may run in several threads at once, and
  * in a signal handler, on outputs that nothing else uses.
@@ -34,7 +35,7 @@ extern "C" {
 #define GINGERPOST_MODULE_MAX 16384
 #define GINGERPOST_OUT_MAX 49152
 #define GINGERPOST_REPORT_MAX 5460
-#define GINGERPOST_STACK 163840
+#define GINGERPOST_STACK 344064
 
 /* The first answer. 1 is judged first; then the words are read from left to right and the first one at fault decides, the lower number winning
  * there; then 7, then 8. */
@@ -72,6 +73,14 @@ static inline uint32_t gingerpost_fresh(uint64_t answer) { return (uint32_t)(ans
  * The caller owes that neither pointer is null, not even for a length of 0, that module_len bytes can be read and out_len bytes written there, that
  * the two ranges do not overlap, and that nothing else writes to them during the call. */
 uint64_t gingerpost_rewrite(const uint8_t *module, size_t module_len, uint8_t *out, size_t out_len);
+
+/* Writes the symbol report of the module in module[0 .. module_len) to the start of out[0 .. out_len): one word for each fresh symbol that the
+ * rewriting takes, in any order. The payload is the symbol, the kind says what it is for: 1 a nameless class, 2 a computed key, 3 the inside of a
+ * decorated class, 4 a class's alias.
+ *
+ * It accepts and refuses as gingerpost_rewrite does, except that 8 is judged by its own length. All else said there holds here, and the caller owes
+ * the same. */
+uint64_t gingerpost_report(const uint8_t *module, size_t module_len, uint8_t *out, size_t out_len);
 
 #ifdef __cplusplus
 }

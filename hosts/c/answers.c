@@ -9,8 +9,10 @@ int main(int count, char **arguments)
     uint64_t (*entry)(const uint8_t *, size_t, uint8_t *, size_t) = NULL;
     if (count == 2 && !strcmp(arguments[1], "rewrite"))
         entry = gingerpost_rewrite;
+    if (count == 2 && !strcmp(arguments[1], "report"))
+        entry = gingerpost_report;
     if (!entry) {
-        fprintf(stderr, "usage: answers rewrite < MODULES\n");
+        fprintf(stderr, "usage: answers rewrite|report < MODULES\n");
         return 2;
     }
     static struct module module;

@@ -1,6 +1,6 @@
-/* Measures how much stack the C entry takes. Each module that standard input lists is run on a thread whose stack has SIZE bytes, all painted before,
- * with a page that can't be reached below it: stack SIZE < MODULES. Prints the most bytes that a call used, those of a thread that does nothing taken
- * off, and the line of that module. A call that needs more than SIZE bytes ends the program with a signal. */
+/* Measures how much stack the two calls take. Each module that standard input lists is run on a thread whose stack has SIZE bytes, all painted before,
+ * with a page that can't be reached below it: stack SIZE < MODULES. Prints the most bytes that each call used, those of a thread that does nothing
+ * taken off, and fails if that isn't below GINGERPOST_STACK. A call that needs more than SIZE bytes ends the program with a signal. */
 #define _GNU_SOURCE
 #include <gingerpost.h>
 #include <pthread.h>
@@ -18,6 +18,12 @@ static void *nothing(void *unused) { return unused; }
 static void *rewrite(void *unused)
 {
     gingerpost_rewrite(module.bytes, module.length, out, sizeof out);
+    return unused;
+}
+
+static void *report(void *unused)
+{
+    gingerpost_report(module.bytes, module.length, out, sizeof out);
     return unused;
 }
 
@@ -52,17 +58,20 @@ int main(int count, char **arguments)
     uint8_t *low = mmap(NULL, page + size, PROT_READ | PROT_WRITE, MAP_PRIVATE | MAP_ANONYMOUS, -1, 0);
     if (low == MAP_FAILED || mprotect(low, page, PROT_NONE))
         fail("no memory");
-    size_t thread = used(low + page, size, nothing), most = 0, line_of_most = 0, lines = 0;
+    size_t thread = used(low + page, size, nothing), most[2] = {0, 0}, lines = 0;
+    void *(*calls[2])(void *) = {rewrite, report};
     char *line = NULL;
     size_t room = 0;
     while (getline(&line, &room, stdin) > 0) {
         read_module(&module, line);
         lines++;
-        size_t n = used(low + page, size, rewrite) - thread;
-        if (n > most)
-            most = n, line_of_most = lines;
+        for (int i = 0; i < 2; i++) {
+            size_t n = used(low + page, size, calls[i]) - thread;
+            if (n > most[i])
+                most[i] = n;
+        }
     }
-    printf("%zu bytes of stack at most, of %zu modules; line %zu took them\n", most, lines, line_of_most);
     free(line);
-    return 0;
+    printf("stack, over %zu modules: %zu bytes at most for the rewriting, %zu for the report\n", lines, most[0], most[1]);
+    return most[0] >= GINGERPOST_STACK || most[1] >= GINGERPOST_STACK;
 }

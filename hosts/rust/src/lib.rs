@@ -25,12 +25,16 @@ pub const MODULE_MAX: usize = 16384;
 /// Bytes of output that are enough for every module. Three times the module's bytes are enough for that module.
 pub const OUT_MAX: usize = 49152;
 
-/// A call takes less stack than this.
-pub const STACK: usize = 163840;
+/// Bytes of output that are enough for the report of every module. A third of the module's bytes are enough for that module.
+pub const REPORT_MAX: usize = 5460;
+
+/// A call takes fewer bytes of stack than this, by measurement; the deepest modules take the most.
+pub const STACK: usize = 344064;
 
 #[link(name = "host", kind = "static")]
 extern "C" {
     fn gingerpost_rewrite(module: *const u8, module_len: usize, out: *mut u8, out_len: usize) -> u64;
+    fn gingerpost_report(module: *const u8, module_len: usize, out: *mut u8, out_len: usize) -> u64;
 }
 
 /// The three answers of a call.
@@ -120,11 +124,20 @@ pub fn rewrite(module: &[u8], out: &mut [u8]) -> Answer {
     Answer::of(unsafe { gingerpost_rewrite(module.as_ptr(), module.len(), out.as_mut_ptr(), out.len()) })
 }
 
+/// Writes the symbol report of the module in `module` to the start of `out`: one word for each fresh symbol that [`rewrite`] takes, in any order. The
+/// payload is the symbol, the kind says what it is for: 1 a nameless class, 2 a computed key, 3 the inside of a decorated class, 4 a class's alias.
+///
+/// It accepts and refuses as [`rewrite`] does, except that [`Refusal::ShortOutput`] is judged by its own length.
+pub fn report(module: &[u8], out: &mut [u8]) -> Answer {
+    // As in `rewrite`.
+    Answer::of(unsafe { gingerpost_report(module.as_ptr(), module.len(), out.as_mut_ptr(), out.len()) })
+}
+
 /// A rewritten module.
 #[derive(Clone, Debug, PartialEq, Eq)]
 pub struct Rewritten {
     pub words: Vec<u32>,
-    /// The fresh symbols taken: the module's S and on. The 40 of `words` holds S plus their number.
+    /// How many fresh symbols were taken: the module's S and on. The 40 of `words` holds S plus their number.
     pub fresh: u32,
 }
 

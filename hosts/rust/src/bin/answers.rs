@@ -1,6 +1,6 @@
 //! Prints what the entry answers for each module that standard input lists: the three numbers, then the words written, on one line. Its argument is
 //! the job, rewrite or report. A module is a line of words as kind:payload.
-use gingerpost::{bytes_of, rewrite, word, words_of, OUT_MAX};
+use gingerpost::{bytes_of, report, rewrite, word, words_of, Answer, OUT_MAX};
 use std::fmt::Write as _;
 use std::io::{self, BufRead, Write as _};
 
@@ -15,9 +15,10 @@ fn read(line: &str) -> Option<Vec<u32>> {
 }
 
 fn main() -> Result<(), Box<dyn std::error::Error>> {
-    let job = match std::env::args().nth(1).as_deref() {
+    let job: fn(&[u8], &mut [u8]) -> Answer = match std::env::args().nth(1).as_deref() {
         Some("rewrite") => rewrite,
-        _ => return Err("usage: answers rewrite < MODULES".into()),
+        Some("report") => report,
+        _ => return Err("usage: answers rewrite|report < MODULES".into()),
     };
     let mut out = vec![0; OUT_MAX];
     let mut print = io::BufWriter::new(io::stdout().lock());

@@ -1,6 +1,10 @@
-//! Prints made-up modules, a line of words as kind:payload for each: modules SEED COUNT [DEPTH]. The same seed gives the same modules. Most are well
-//! formed, by the grammar of docs/FORMAT.md; one in three has a word changed, lost, doubled or put in, or a symbol too many. With DEPTH, which is 64
-//! if it isn't given, records nest down to that depth, so that 65 gives modules that are too deep.
+//! Prints made-up modules, a line of words as kind:payload for each.
+//!
+//! modules SEED COUNT [DEPTH]: modules from a seed, the same ones for the same seed. Most are well formed, by the grammar of docs/FORMAT.md; one in
+//! three is damaged: a word changed, lost, doubled or put in, a symbol too many, a decorated constructor. Records nest down to DEPTH, which is 64 if it
+//! isn't given, so that 65 gives modules that are too deep.
+//!
+//! modules deepest: modules whose records nest down to depth 64, one for each way to go down and for each two ways in turn.
 use gingerpost::word;
 use std::env;
 use std::fmt::Write;
@@ -319,7 +323,7 @@ impl Maker {
     fn damage(&mut self) {
         let n = self.words.len();
         let i = self.numbers.below(n);
-        match self.numbers.below(8) {
+        match self.numbers.below(9) {
             0 => self.words[i] ^= 1 << self.numbers.below(32),
             1 => self.words[i] = self.numbers.next() as u32,
             2 => {
@@ -329,15 +333,78 @@ impl Maker {
             4 => self.words.truncate(i),
             5 => self.words.push(self.words[i]),
             6 => self.words[1] = word(40, self.numbers.below(4) as u32),
+            7 => self.decorate_constructor(),
             _ => self.words[1] = word(40, 999_999 + self.numbers.below(3) as u32),
+        }
+    }
+
+    /// The first constructor's own list of decorators gets one.
+    fn decorate_constructor(&mut self) {
+        let constructor = |w: &u32| w >> 26 == 30 && w & 2 == 2;
+        if let Some(i) = self.words.iter().position(constructor) {
+            self.words[i + 1] = word(28, 1);
+            self.words.insert(i + 2, word(9, 0));
         }
     }
 }
 
+/// Ways from a place for an expression to one further down: the words in front of it, those behind it, how many levels down.
+const WAYS: [(&str, &str, usize); 16] = [
+    ("16:1", "", 1),
+    ("18:0", "", 1),
+    ("19:1", "", 1),
+    ("20:0 26:4 28:0", "29:0", 2),
+    ("20:0 26:0 28:0 29:1 31:2 28:0 34:1", "", 4),
+    ("20:0 26:0 28:0 29:1 31:0 28:0", "", 4),
+    ("20:0 26:0 28:0 29:1 30:4 28:0 34:1 36:0 39:1 2:0", "", 6),
+    ("20:0 26:0 28:0 29:1 30:2 28:0 34:1 36:1 37:0 28:1", "", 7),
+    ("21:0 36:0 39:1 4:0 26:1 28:1", "27:0 29:0", 5),
+    ("21:0 36:0 39:1 4:0 26:1 28:1 9:0 27:0 29:1 31:0 28:1 9:0", "", 6),
+    ("21:0 36:0 39:1 4:0 26:1 28:1 9:0 27:0 29:1 33:1 2:0", "", 7),
+    ("21:0 36:0 39:1 4:0 26:1 28:0 27:0 29:1 30:4 28:1", "34:1 36:0 39:0", 7),
+    ("21:0 36:0 39:1 4:0 26:1 28:1 9:0 27:0 29:1 30:4 28:1 9:0 34:1 36:0 39:1 2:0", "", 8),
+    ("21:0 36:0 39:1 4:0 26:1 28:0 27:0 29:1 30:6 28:0 34:1 36:1 37:0 28:1", "39:0", 9),
+    ("21:0 36:0 39:1 4:0 26:3 28:0 27:0 29:1 31:2 28:0 34:1", "", 6),
+    ("21:0 36:0 39:1 4:0 26:3 28:0 27:0 29:1 30:4 28:0 34:1 36:0 39:1 4:0 26:3 28:0 27:0 29:1 30:4 28:0 34:1 36:0 39:1 2:0", "", 12),
+];
+
+/// The two ways in turn, as far down as they lead, then arrays down to depth 64.
+fn deepest(one: usize, other: usize) -> String {
+    let (mut front, mut behind) = (vec!["1:1 40:1 2:0"], Vec::new());
+    let mut depth = 3;
+    for i in [one, other].into_iter().cycle() {
+        let (before, after, levels) = WAYS[i];
+        if depth + levels > 64 {
+            break;
+        }
+        front.push(before);
+        behind.push(after);
+        depth += levels;
+    }
+    front.resize(front.len() + 64 - depth, "16:1");
+    front.push("9:0");
+    front.extend(behind.into_iter().rev().filter(|w| !w.is_empty()));
+    front.join(" ")
+}
+
 fn main() {
-    let given: Vec<u64> = env::args().skip(1).map(|a| a.parse().expect("usage: modules SEED COUNT [DEPTH]")).collect();
-    let (seed, count) = (given[0], given[1]);
-    let depth = given.get(2).map_or(64, |d| *d as usize);
+    if env::args().nth(1).as_deref() == Some("deepest") {
+        for one in 0..WAYS.len() {
+            for other in 0..WAYS.len() {
+                println!("{}", deepest(one, other));
+            }
+        }
+        return;
+    }
+    let given: Vec<u64> = env::args().skip(1).map_while(|a| a.parse().ok()).collect();
+    let (seed, count, depth) = match given[..] {
+        [seed, count] => (seed, count, 64),
+        [seed, count, depth] => (seed, count, depth as usize),
+        _ => {
+            eprintln!("usage: modules deepest, or modules SEED COUNT [DEPTH]");
+            std::process::exit(2);
+        }
+    };
     for i in 0..count {
         let mut numbers = Numbers(seed.wrapping_mul(0x1_0000_0001).wrapping_add(i));
         let size = match i % 50 {
