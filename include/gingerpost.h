@@ -35,7 +35,7 @@ extern "C" {
 #define GINGERPOST_MODULE_MAX 16384
 #define GINGERPOST_OUT_MAX 49152
 #define GINGERPOST_REPORT_MAX 5460
-#define GINGERPOST_STACK 344064
+#define GINGERPOST_STACK 196608
 
 /* The first answer. 1 is judged first; then the words are read from left to right and the first one at fault decides, the lower number winning
  * there; then 7, then 8. */

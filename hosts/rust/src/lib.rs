@@ -29,7 +29,7 @@ pub const OUT_MAX: usize = 49152;
 pub const REPORT_MAX: usize = 5460;
 
 /// A call takes fewer bytes of stack than this, by measurement; the deepest modules take the most.
-pub const STACK: usize = 344064;
+pub const STACK: usize = 196608;
 
 #[link(name = "host", kind = "static")]
 extern "C" {
