@@ -1,10 +1,11 @@
 -- What the C entry answers for every list of bytes and every lent output: one number, and all lent bytes afterwards. Definitions only.
 use mathlib.Core.Path.{_≡_}
-use mathlib.Core.Bool.{cond}
+use mathlib.Core.Bool.{Bool, true, cond}
 use mathlib.Core.List.{List}
 use Prim.Native.Nat.{ℕ, _+_, _*_, _/_, _%_, _^_, _<_}
-use lib.Dec.{eqb}
+use lib.Dec.{eqb, ltb}
 use lib.ListN.{length}
+use Rattle.grammar.specs.Limits.{maxWords}
 use Rattle.rewriting.specs.Answer.{Answer, refused, moduleWords, reportWords, answerOf, lentAfter, Reordered}
 use Rattle.host.specs.Bytes.{wordsOfBytes, bytesOfWords}
 
@@ -27,6 +28,10 @@ answerIn n = record { code = n % 2 ^ 8; written = n / 2 ^ 8 % 2 ^ 28; fresh = n 
 -- words: "an output's whole words count"
 unfoldable pub answerBytes : List ℕ → List ℕ → List ℕ → Answer
 answerBytes bs xs o = cond (eqb (length bs % 4) 0) (answerOf (wordsOfBytes bs) xs (length o / 4)) (refused 1)
+
+-- "over 4,096, or bytes not a multiple of 4"
+unfoldable pub isBadLength : ℕ → Bool
+isBadLength n = cond (eqb (n % 4) 0) (ltb (4 * maxWords) n) true
 
 -- ---- the rewriting
 

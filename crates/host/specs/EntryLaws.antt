@@ -16,15 +16,15 @@ use Rattle.grammar.specs.Refused.{refusal-le, refused-1}
 use Rattle.grammar.specs.Accepted.{accepted as well-formed}
 use Rattle.rewriting.specs.Parts.{anyRecord, isRefused7}
 use Rattle.rewriting.specs.Visit.{moduleOf}
-use Rattle.rewriting.specs.Answer.{Answer, accepted, refused, turnedBack, moduleWords, reportWords, answerOf, lentAfter, rewriteAnswer, rewriteLent}
-use Rattle.rewriting.specs.Room.{faults-first, not-turned-back, seven-before-eight, untouched}
+use Rattle.rewriting.specs.Answer.{Answer, accepted, refused, turnedBack, moduleWords, reportWords, answerOf, lentAfter, rewriteAnswer, rewriteLent, reportAnswer, Reordered, ReportLent}
+use Rattle.rewriting.specs.Room.{faults-first, not-turned-back, seven-before-eight, untouched, one-each}
 use Rattle.rewriting.specs.Length.{module-length}
 use Rattle.rewriting.specs.Report.{report-length}
 use Rattle.rewriting.specs.DemandWords.{DemandWords}
 use Rattle.rewriter.specs.Result.{take-written}
 use Rattle.host.specs.Bytes.{wordsOfBytes, bytesOfWords, Small}
 use Rattle.host.specs.BytesLaws.{length-words, length-bytes, words-bytes}
-use Rattle.host.specs.Entry.{numberOf, InFields, answerIn, answerBytes, rewriteBytes, reportBytes}
+use Rattle.host.specs.Entry.{numberOf, InFields, answerIn, answerBytes, isBadLength, rewriteBytes, reportBytes}
 
 -- the number loses nothing
 pub number-apart : (a : Answer) → InFields a → answerIn (numberOf a) ≡ a
@@ -113,8 +113,16 @@ answer-min ws xs k most bound = go (eqb (turnedBack ws) 0) refl
 
 -- ---- an answer for bytes
 
+pub good-length : (n : ℕ) → isBadLength n ≡ false → (n % 4 ≡ 0) × (n ≤ 16384)
+unfolding isBadLength
+good-length n = go (eqb (n % 4) 0) refl
+  where
+    go : (b : Bool) → eqb (n % 4) 0 ≡ b → cond b (ltb 16384 n) true ≡ false → (n % 4 ≡ 0) × (n ≤ 16384)
+    go true e h = (eqb-true (n % 4) 0 e, ltb-false 16384 n h)
+    go false e h = let z : _≡_ {A = Bool} true false = h in let w : _≡_ {A = ℕ} 0 1 = cc in absurd (omega arith)
+
 module _ (bs xs o : List ℕ) where
-  pub answer-odd : (length bs % 4 ≡ 0 → ⊥) → answerBytes bs xs o ≡ refused 1
+  answer-odd : (length bs % 4 ≡ 0 → ⊥) → answerBytes bs xs o ≡ refused 1
   unfolding answerBytes
   answer-odd n = rw (ne-eqb (length bs % 4) 0 n)
 
@@ -122,12 +130,20 @@ module _ (bs xs o : List ℕ) where
   unfolding answerBytes
   answer-even e = rw (eq-eqb (length bs % 4) 0 e)
 
-  pub answer-many : length bs % 4 ≡ 0 → 16384 < length bs → answerBytes bs xs o ≡ refused 1
+  answer-many : length bs % 4 ≡ 0 → 16384 < length bs → answerBytes bs xs o ≡ refused 1
   answer-many e h =
       let ws : List ℕ = wordsOfBytes bs in
       let one : refusal ws ≡ 1 = refused-1 ws .1 (λ z. omega (arith, z .few, length-words bs)) in
       let first : turnedBack ws ≡ 1 = faults-first ws (λ z. omega (arith, one)) ∙ one in
       answer-even e ∙ seven-before-eight ws xs (length o / 4) (λ z. omega (arith, first)) ∙ ap refused first
+
+  pub answer-bad : isBadLength (length bs) ≡ true → answerBytes bs xs o ≡ refused 1
+  unfolding isBadLength
+  answer-bad = go (eqb (length bs % 4) 0) refl
+    where
+      go : (b : Bool) → eqb (length bs % 4) 0 ≡ b → cond b (ltb 16384 (length bs)) true ≡ true → answerBytes bs xs o ≡ refused 1
+      go true e h = answer-many (eqb-true (length bs % 4) 0 e) (ltb-true 16384 (length bs) h)
+      go false e h = answer-odd (eqb-false (length bs % 4) 0 e)
 
   -- where `most` words are lent, or fewer if the output is shorter
   answer-cut : (room most : ℕ) → length bs % 4 ≡ 0 → room ≡ min (length o / 4) most → (turnedBack (wordsOfBytes bs) ≡ 0 → length xs ≤ most) →
@@ -270,3 +286,23 @@ module _ (bs o v z y : List ℕ) (room : ℕ) (a : Answer) (read : v ≡ wordsOf
         lent = lent ∙ ap (λ (l : List ℕ). lentAfter (answerOf l (moduleWords l) (length (take room z))) (moduleWords l) (take room z)) read ∙ ap (λ (r : Answer). lentAfter r (moduleWords (wordsOfBytes bs)) (take room z)) (sym n);
         kept = kept;
       }
+
+-- ---- the symbol report
+
+module _ (bs o v z y : List ℕ) (room : ℕ) (a : Answer) (read : v ≡ wordsOfBytes bs) (w : ReportLent v (take room z) y) where
+  pub report-order : Reordered (w .order) (reportWords (wordsOfBytes bs))
+  report-order = subst (λ (l : List ℕ). Reordered (w .order) (reportWords l)) read (w .same)
+
+  pub report-called : length bs % 4 ≡ 0 → room ≡ min (length o / 4) (length z) → length z ≡ 1365 → length y ≡ length (take room z) →
+      a ≡ reportAnswer v (take room z) → Called bs o (reportWords (wordsOfBytes bs)) (w .order) z y room a
+  unfolding reportAnswer
+  report-called even within long kept numbers = record {
+    even = even;
+    within = within;
+    bound = λ t. omega (arith, report-bound (wordsOfBytes bs) t, long);
+    short = omega (arith, long);
+    as-long = λ t. one-each (wordsOfBytes bs) (w .order) (not-turned-back (wordsOfBytes bs) t) report-order .as-many;
+    numbers = numbers ∙ ap (λ (l : List ℕ). answerOf l (reportWords l) (length (take room z))) read;
+    lent = w .lent ∙ ap (λ (r : Answer). lentAfter r (w .order) (take room z)) (sym numbers);
+    kept = kept;
+  }

@@ -7,7 +7,7 @@ ghost use Rattle.output.specs.Overlay.{overlay};
 ghost use Rattle.rewriting.specs.DemandWords.{DemandWords};
 ghost use Rattle.rewriter.specs.Numbers.{numbersOf};
 ghost use Rattle.host.specs.Bytes.{wordFrom, wordsOfBytes, bytesFrom, bytesOfWords, Small};
-ghost use Rattle.host.specs.Entry.{numberOf, InFields, answerIn, rewriteBytes, rewriteBytesLent};
+ghost use Rattle.host.specs.Entry.{numberOf, InFields, answerIn, isBadLength, rewriteBytes, rewriteBytesLent, reportBytes, ReportBytesLent};
 
 // Rewrites the module in `bytes`; the answer's bytes go to the start of `out`. The number holds the three answers.
 #[no_mangle]
@@ -16,23 +16,50 @@ pub extern "C" fn gingerpost_rewrite(bytes: &[u8], out: &mut [u8]) -> u64
     ensures lent { λ r. ⌜ now (out .exit) ≡ rewriteBytesLent (now (bytes .entry)) (now (out .entry)) ⌝ }
     ensures demand { λ r. ⌜ (answerIn r .code ≡ 0 → DemandWords (wordsOfBytes (now (bytes .entry))) (take (answerIn r .written) (wordsOfBytes (now (out .exit))))) ⌝ }
 {
-    if bytes.len() & 3 != 0 {
-        return 1;
-    }
-    // Over 4,096 words.
-    if 16384 < bytes.len() {
+    if is_bad_length(bytes.len()) {
         return 1;
     }
     let n = bytes.len() >> 2;
     let mut ws = [0u32; 4096];
     pack(bytes, &mut ws);
-    let room = words_within(out.len(), 12288);
     // A rewritten module has at most three times the words read (`module-length`).
+    let room = words_within(out.len(), 12288);
     let mut written = [0u32; 12288];
     let r = rewriter::rewrite(&ws[..n], &mut written[..room]);
     let m = r.written;
     unpack(&written[..m], out);
     number(r)
+}
+
+// Writes the symbol report of the module in `bytes` to the start of `out`. The number holds the three answers.
+#[no_mangle]
+pub extern "C" fn gingerpost_report(bytes: &[u8], out: &mut [u8]) -> u64
+    ensures number { λ r. ⌜ r ≡ numberOf (reportBytes (now (bytes .entry)) (now (out .entry))) ⌝ }
+    ensures lent { λ r. ⌜ ReportBytesLent (now (bytes .entry)) (now (out .entry)) (now (out .exit)) ⌝ }
+{
+    if is_bad_length(bytes.len()) {
+        return 1;
+    }
+    let n = bytes.len() >> 2;
+    let mut ws = [0u32; 4096];
+    pack(bytes, &mut ws);
+    // A report has at most a third of the words read (`report-length`).
+    let room = words_within(out.len(), 1365);
+    let mut written = [0u32; 1365];
+    let r = symbol_report::report(&ws[..n], &mut written[..room]);
+    let m = r.written;
+    unpack(&written[..m], out);
+    number(r)
+}
+
+// Whether so many bytes are refused at once: no multiple of 4, or over 4,096 words.
+fn is_bad_length(n: usize) -> bool
+    ensures { λ r. ⌜ r ≡ isBadLength n ⌝ }
+{
+    if n & 3 != 0 {
+        return true;
+    }
+    16384 < n
 }
 
 // The words of the bytes, at the start of `ws`.

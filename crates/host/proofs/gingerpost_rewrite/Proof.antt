@@ -1,14 +1,13 @@
--- `gingerpost_rewrite`: the two early returns are refusal 1; behind the call, `Called` has all that the rest follows from.
-use Rattle.host.specs.EntryLaws.{Called, answer-odd, answer-many, one-number, one-lent, called-answer, called-fields, called-within, called-length, called-room, called-lent, called-demand, rewriting-called}
+-- `gingerpost_rewrite`: the early return is refusal 1; behind the call, `Called` has all that the rest follows from.
+use Rattle.host.specs.EntryLaws.{Called, good-length, answer-bad, one-number, one-lent, called-answer, called-fields, called-within, called-length, called-room, called-lent, called-demand, rewriting-called}
 use Rattle.host.specs.Entry.{numberOf, answerIn, rewriteBytes, rewriteBytesLent}
-use Rattle.host.specs.BytesLaws.{length-words}
 use Rattle.host.specs.Bytes.{wordsOfBytes, bytesOfWords}
-use Rattle.rewriter.specs.Numbers.{numbersOf}
 use Rattle.rewriting.specs.DemandWords.{DemandWords}
 use Rattle.rewriting.specs.Answer.{moduleWords}
+use Rattle.host.specs.BytesLaws.{length-words}
+use Rattle.rewriter.specs.Numbers.{numbersOf}
 use lib.Seq.{length-take-le}
 use lib.ListN.{length, take, replicate}
-use lib.Bits.{and-mask}
 use native.Mathlib.Omega.{arith}
 use Prim.Native.Nat.{ℕ, _≤_}
 use mathlib.Core.List.{List}
@@ -20,7 +19,7 @@ use Rattle.host.proofs.gingerpost_rewrite.Tie as tie
 buffer : List ℕ
 buffer = replicate 12288 0
 
--- what is known once the rewriter has returned
+-- what is known once the call has returned
 called : (c : tie.After-written2) →
     Called (c .before .before .before .before .before .before .before .before .before .before .before .before .args .bytes .now) (c .before .before .before .before .before .before .before .before .before .before .before .before .args .out .now)
     (moduleWords (wordsOfBytes (c .before .before .before .before .before .before .before .before .before .before .before .before .args .bytes .now)))
@@ -31,40 +30,35 @@ called c =
     let g = c .before .before .before .before .before .before .before .before .before .before .before .before .args in
     rewriting-called (g .bytes .now) (g .out .now) _ buffer (c .before .rewrite .last .1 .0) (c .before .before .before .before .words-within .result) (numbersOf (c .before .rewrite .result))
     (c .before .before .before .before .before .before .pack .ensures)
-    (sym (and-mask (length (g .bytes .now)) 2) ∙ c .before .before .before .before .before .before .before .before .before .if1 .left)
+    (good-length (length (g .bytes .now)) (sym (c .before .before .before .before .before .before .before .before .before .is-bad-length .ensures) ∙ c .before .before .before .before .before .before .before .before .if1 .left) .0)
     (c .before .before .before .before .words-within .ensures)
     refl
     (c .before .rewrite .kept .1 .0)
     (c .before .rewrite .ensures .0)
     (c .before .rewrite .ensures .1 .0)
 
+is-bad-length-requires : tie.Need-is-bad-length-requires
+is-bad-length-requires c κs = search needs
+
 returns : tie.Need-returns
 unfolding rewriteBytes rewriteBytesLent answerIn
 returns c =
-    let bs = c .before .before .before .args .bytes .now in
-    let o = c .before .before .before .args .out .now in
-    let e = answer-odd bs (moduleWords (wordsOfBytes bs)) o (λ z. c .if1 .taken (and-mask (length bs) 2 ∙ z)) in
-    (one-number _ e, (one-lent _ (bytesOfWords (moduleWords (wordsOfBytes bs))) o e, λ z. absurd (omega arith)))
-
-returns-2 : tie.Need-returns-2
-unfolding rewriteBytes rewriteBytesLent answerIn
-returns-2 c =
     let bs = c .before .before .before .before .args .bytes .now in
     let o = c .before .before .before .before .args .out .now in
-    let e = answer-many bs (moduleWords (wordsOfBytes bs)) o (sym (and-mask (length bs) 2) ∙ c .before .if1 .left) (c .if2 .taken) in
+    let e = answer-bad bs (moduleWords (wordsOfBytes bs)) o (sym (c .before .is-bad-length .ensures) ∙ c .if1 .taken) in
     (one-number _ e, (one-lent _ (bytesOfWords (moduleWords (wordsOfBytes bs))) o e, λ z. absurd (omega arith)))
 
 slice-aggregate-pack : tie.Need-slice-aggregate-pack
 slice-aggregate-pack c = search needs
 
 pack-requires : tie.Need-pack-requires
-pack-requires c κs = search needs
+pack-requires c κs = good-length (length (c .before .before .before .before .before .args .bytes .now)) (sym (c .before .before .is-bad-length .ensures) ∙ c .before .if1 .left) .1
 
 words-within-requires : tie.Need-words-within-requires
 words-within-requires c κs = search needs
 
 array-share-prefix-ws : tie.Need-array-share-prefix-ws
-array-share-prefix-ws c = search needs
+array-share-prefix-ws c = omega (arith, good-length (length (c .before .before .before .before .before .before .before .before .args .bytes .now)) (sym (c .before .before .before .before .before .is-bad-length .ensures) ∙ c .before .before .before .before .if1 .left) .1, c .before .before .pack .kept .1 .0)
 
 slice-aggregate-rewrite : tie.Need-slice-aggregate-rewrite
 slice-aggregate-rewrite c = sym (ap length (c .before .before .before .pack .ensures) ∙ length-words (c .before .before .before .before .before .before .before .before .before .args .bytes .now))
@@ -99,9 +93,9 @@ number-requires c κs = called-fields (called (c .before .before .before .before
 same-length : tie.Need-same-length
 same-length c = search needs
 
-returns-3 : tie.Need-returns-3
+returns-2 : tie.Need-returns-2
 unfolding rewriteBytes rewriteBytesLent numbersOf buffer
-returns-3 c =
+returns-2 c =
     let k = called (c .before .before .before .before .before .before) in (
       c .number .ensures ∙ ap numberOf (called-answer k),
       (
@@ -114,8 +108,8 @@ pub gingerpost-rewrite-spec : {M : Type 1} → statement M
 gingerpost-rewrite-spec =
     tie.close
     (tie.spec
+    is-bad-length-requires
     returns
-    returns-2
     slice-aggregate-pack
     pack-requires
     words-within-requires
@@ -129,4 +123,4 @@ gingerpost-rewrite-spec =
     unpack-requires
     number-requires
     same-length
-    returns-3)
+    returns-2)
