@@ -6,7 +6,6 @@ use Prim.Native.Nat.{ℕ, _+_, _*_, _-_, _<_}
 use native.Mathlib.Omega.{arith}
 use lib.Dec.{ltb, eqb}
 use borrow.Author.Tests.{ltb-true, ltb-false}
-use Rattle.line_reader.specs.declared.Fault.{Fault}
 use Rattle.line_reader.specs.declared.Fault.the-variants.{NoKind, NoColon, NoPayload, KindTooLarge, PayloadTooLarge, NotADigit, LeadingBlank, SecondItem}
 use Rattle.line_reader.specs.declared.Stage.{Stage}
 use Rattle.line_reader.specs.declared.Stage.the-variants.{Start, Blank, Kind, Colon, Payload, End, Bad}

@@ -2,8 +2,7 @@
 use mathlib.Core.Path.{_≡_, refl, sym, ap, _∙_}
 use mathlib.Core.Bool.{Bool, true, false, cond}
 use mathlib.Core.List.{List, [], _∷_, _++_, append-assoc, append-nil}
-use Prim.Native.Nat.{ℕ, suc, _+_, _*_, _-_, _<_, _≤_, min}
-use native.Mathlib.Nat.{le-refl}
+use Prim.Native.Nat.{ℕ, _+_, _-_, _<_, _≤_, min}
 use native.Mathlib.Numerals.{add-one}
 use native.Mathlib.Omega.{arith}
 use lib.Dec.{ltb, eqb}
@@ -173,3 +172,8 @@ follows-more bs i h p q = rw (add-one, take-suc bs i 0) (follows-then p q)
 
 pub follows-all : {o : List ℕ} {r : Reading} {o₁ : List ℕ} {r₁ : Reading} (bs : List ℕ) (i : ℕ) → length bs ≤ i → Follows (take i bs) o r o₁ r₁ → Follows bs o r o₁ r₁
 follows-all bs i h p = rw (take-all i bs h) at p
+
+-- the start of a text is ready for any slice
+pub ready-start : (o : List ℕ) (r : Reading) → (r .stage ≡ Start) × (r .line ≡ 1) × (r .stored ≡ 0) → Ready o r
+unfolding Fit
+ready-start o r h = record { fit = rw (h .0) tt; room = omega (arith, h .2) }

@@ -8,7 +8,7 @@ use native.Mathlib.Omega.{arith}
 use lib.Dec.{ltb}
 use borrow.Author.Tests.{lt-ltb, le-ltb}
 use lib.ListN.{length, take, getD, length-append, length-take}
-use lib.Seq.{take-suc, take-all}
+use lib.Seq.{take-suc}
 use Rattle.words.specs.Word.{kindOf, payloadOf}
 
 -- the digits of n, most significant first, `more` of them at most and one: those of n itself where that is below 10 ^ (more + 1)
