@@ -1,0 +1,4 @@
+@cc
+class Filter {
+  @knob sweep() {}
+}
