@@ -363,56 +363,56 @@ fn shrunk(m: &[u32]) -> Vec<u32> {
     if !differs(&small) {
         return small;
     }
-    loop {
-        match steps(&small).into_iter().find(|s| differs(s)) {
-            Some(s) => small = s,
-            None => return small,
-        }
+    while let Some(s) = smaller(&small, &differs) {
+        small = s;
     }
+    small
 }
 
-/// Smaller modules one step away: a record gone from its list, a child in the place of its parent, a leaf in the place of an expression, a word
-/// gone, a payload lower.
-fn steps(m: &[u32]) -> Vec<Vec<u32>> {
-    let mut out = Vec::new();
+/// The first module one step away that differs too: with a record gone from its list, a leaf or a child in the place of a record, a word gone,
+/// or a payload lower.
+fn smaller(m: &[u32], differs: &dyn Fn(&[u32]) -> bool) -> Option<Vec<u32>> {
+    let changed = |from: usize, until: usize, by: &[u32]| {
+        let mut s = m.to_vec();
+        s.splice(from..until, by.iter().copied());
+        s
+    };
     for at in 0..m.len() {
         let end = behind(m, at);
-        // The list that this record stands in, by counting back.
-        for list in (0..at).rev() {
-            if matches!(kind(m[list]), 1 | 3 | 16 | 17 | 25 | 28 | 29 | 33 | 36 | 39) && behind(m, list) >= end && payload(m[list]) > 0 {
-                let mut s = m.to_vec();
-                s[list] -= 1;
-                s.drain(at..end);
-                out.push(s);
-                break;
+        let is_list = |i: &usize| matches!(kind(m[*i]), 1 | 3 | 16 | 17 | 25 | 28 | 29 | 33 | 36 | 39) && payload(m[*i]) > 0;
+        // The closest list around, by counting back.
+        if let Some(list) = (0..at).rev().filter(is_list).find(|i| behind(m, *i) >= end) {
+            let mut s = changed(at, end, &[]);
+            s[list] -= 1;
+            if differs(&s) {
+                return Some(s);
+            }
+        }
+        if kind(m[at]) != 8 {
+            let s = changed(at, end, &[word(8, 0)]);
+            if differs(&s) {
+                return Some(s);
             }
         }
         if end > at + 1 {
-            let mut s = m.to_vec();
-            s.splice(at..end, [word(8, 0)]);
-            out.push(s);
-            let mut s = m.to_vec();
-            s.splice(at..end, m[at + 1..behind(m, at + 1)].to_vec());
-            out.push(s);
-        }
-        if end == at + 1 && kind(m[at]) != 8 {
-            let mut s = m.to_vec();
-            s[at] = word(8, 0);
-            out.push(s);
-        }
-    }
-    for at in 0..m.len() {
-        let mut s = m.to_vec();
-        s.remove(at);
-        out.push(s);
-        let p = payload(m[at]);
-        for lower in [0, p / 2, p.saturating_sub(1)] {
-            if lower < p {
-                let mut s = m.to_vec();
-                s[at] = word(kind(m[at]), lower);
-                out.push(s);
+            let s = changed(at, end, &m[at + 1..behind(m, at + 1)]);
+            if differs(&s) {
+                return Some(s);
             }
         }
     }
-    out
+    for at in 0..m.len() {
+        let s = changed(at, at + 1, &[]);
+        if differs(&s) {
+            return Some(s);
+        }
+        let p = payload(m[at]);
+        for lower in [0, p / 2, p.saturating_sub(1)] {
+            let s = changed(at, at + 1, &[word(kind(m[at]), lower)]);
+            if lower < p && differs(&s) {
+                return Some(s);
+            }
+        }
+    }
+    None
 }
