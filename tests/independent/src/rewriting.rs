@@ -455,9 +455,7 @@ fn class_has_private_in(class: &Class) -> bool {
                     || parameters_have_private_in(&m.parameters)
                     || m.code.iter().flatten().any(statement_has_private_in)
             }
-            Element::Property(p) => {
-                p.decorators.iter().any(has_private_in) || key_has_private_in(&p.key) || p.value.iter().any(has_private_in)
-            }
+            Element::Property(p) => p.decorators.iter().any(has_private_in) || key_has_private_in(&p.key) || p.value.iter().any(has_private_in),
             Element::Accessor(a) => a.decorators.iter().any(has_private_in) || key_has_private_in(&a.key),
             Element::StaticBlock(list) => list.iter().any(statement_has_private_in),
         })

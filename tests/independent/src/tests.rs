@@ -146,10 +146,7 @@ fn an_alias_with_a_static_property() {
 #[test]
 fn private_in() {
     // @(#1 in 8) export class C { C }: no assignment, no export, an empty block, the alias taken but nowhere assigned.
-    becomes(
-        "1:1 40:1 4:1 26:1 28:1 19:1 8:0 27:0 29:1 31:0 28:0 9:0",
-        "1:1 40:3 4:1 26:1 28:0 27:1 29:2 31:0 28:0 9:2 33:0",
-    );
+    becomes("1:1 40:1 4:1 26:1 28:1 19:1 8:0 27:0 29:1 31:0 28:0 9:0", "1:1 40:3 4:1 26:1 28:0 27:1 29:2 31:0 28:0 9:2 33:0");
     // The same with a static member of which the decorator names C: the block in front, the call with C behind.
     becomes(
         "1:1 40:1 4:0 26:1 28:1 19:1 8:0 27:0 29:1 31:3 28:1 9:0 34:1 9:0",

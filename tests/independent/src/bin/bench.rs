@@ -2,9 +2,9 @@
 //! and bytes out. Prints a table of nanoseconds and ratios.
 
 use independent::generator::Random;
-use independent::{MOST_WORDS, Verdict, bytes_of, generator, judge, judge_words, parsed, rewrite_bytes, shown, word};
+use independent::{MOST_DEPTH, MOST_WORDS, Verdict, bytes_of, judge, judge_words, packed, parsed, report_bytes, rewrite_bytes, word};
 use std::hint::black_box;
-use std::time::{Duration, Instant};
+use std::time::Duration;
 
 #[path = "../proved.rs"]
 mod proved;
@@ -14,24 +14,31 @@ const SIZES: [usize; 5] = [16, 64, 256, 1024, 4096];
 fn main() {
     let mut args = std::env::args().skip(1);
     match (args.next().as_deref(), args.next()) {
-        (None, _) => table(),
-        (Some("search"), n) => search(n.and_then(|n| n.parse().ok()).unwrap_or(2000)),
+        (None, None) => table(),
+        (Some("shapes"), None) => all_shapes(),
         _ => {
-            eprintln!("bench             the table\nbench search [N]  the slowest of N random modules, per word and against the independent Rust");
+            eprintln!("bench         the table\nbench shapes  the worst nesting: every shape of classes in one another");
             std::process::exit(2);
         }
     }
 }
 
-/// The modules that one measurement runs through.
+/// The modules that one measurement runs through, and the call that it makes.
 struct Input {
     name: String,
     modules: Vec<Vec<u8>>,
+    call: Call,
+}
+
+#[derive(Clone, Copy)]
+enum Call {
+    Rewrite,
+    Report,
 }
 
 impl Input {
     fn one(name: &str, words: &[u32]) -> Input {
-        Input { name: format!("{name}, {} words", words.len()), modules: vec![bytes_of(words)] }
+        Input { name: format!("{name}, {} words", words.len()), modules: vec![bytes_of(words)], call: Call::Rewrite }
     }
 
     fn words(&self) -> usize {
@@ -40,28 +47,31 @@ impl Input {
 }
 
 fn table() {
+    let worst = slowest_first().swap_remove(0).shape;
+    println!("worst nesting: {}\n", worst.name());
     let mut inputs = Vec::new();
     for n in SIZES {
         inputs.push(Input::one("typical script", &typical(n)));
     }
     let mut r = Random::new(3, 0);
     let bank: Vec<Vec<u8>> = (0..256).map(|_| bytes_of(&typical(16 + 4 * r.below(13) as usize))).collect();
-    inputs.push(Input { name: format!("bank of {} scripts, 16 to 64 words", bank.len()), modules: bank });
+    let name = format!("bank of {} scripts, 16 to 64 words each", bank.len());
+    inputs.push(Input { name, modules: bank, call: Call::Rewrite });
     for n in SIZES {
         inputs.push(Input::one("no class", &without_classes(n)));
     }
-    for (name, make) in FAMILIES {
-        for n in SIZES {
-            inputs.push(Input::one(name, &filled(*make, n)));
-        }
+    for n in SIZES {
+        inputs.push(Input::one("worst nesting", &worst.module(n)));
     }
+    let name = format!("symbol report of a typical script, {MOST_WORDS} words");
+    inputs.push(Input { name, modules: vec![bytes_of(&typical(MOST_WORDS))], call: Call::Report });
     println!("| input | words written | proved, ns | Rust, ns | copy, ns | proved, ns a word | proved : Rust | proved : copy |");
     println!("|---|---|---|---|---|---|---|---|");
     for input in inputs {
-        let written: usize = input.modules.iter().map(|m| answer(m)).sum();
-        let [ours, rust, copy] = measured(&input.modules, Duration::from_millis(400));
+        let written: usize = input.modules.iter().map(|m| answer(m, input.call)).sum();
+        let [ours, rust, copy] = measured(&input, 40);
         println!(
-            "| {} | {} | {:.0} | {:.0} | {:.0} | {:.2} | {:.2} | {:.0} |",
+            "| {} | {} | {:.0} | {:.0} | {:.0} | {:.1} | {:.2} | {:.0} |",
             input.name,
             written,
             ours,
@@ -74,41 +84,70 @@ fn table() {
     }
 }
 
-/// The words that a module becomes. A refused one would be no measure of the rewriting.
-fn answer(module: &[u8]) -> usize {
-    match judge(module) {
-        Verdict::Accepted(r) => r.words.len(),
-        Verdict::Refused(code) => panic!("refused with {code}"),
-    }
+/// The words that an answer has. Both must give it; a refused module would be no measure of the rewriting.
+fn answer(module: &[u8], call: Call) -> usize {
+    let Verdict::Accepted(r) = judge(module) else { panic!("refused") };
+    let mut out = vec![0u8; 12 * MOST_WORDS];
+    let (got, n) = match call {
+        Call::Rewrite => (proved::rewrite(module, &mut out), r.words.len()),
+        Call::Report => (proved::report(module, &mut out), r.fresh.len()),
+    };
+    assert_eq!(got, packed(0, n, r.fresh.len()), "the two answers differ");
+    n
 }
 
 /// Nanoseconds for one run through the modules, by each of the three: the least of many rounds, which take turns.
-fn measured(modules: &[Vec<u8>], time: Duration) -> [f64; 3] {
+fn measured(input: &Input, rounds: usize) -> [f64; 3] {
     let mut out = vec![0u8; 12 * MOST_WORDS];
     let mut least = [f64::MAX; 3];
-    let begin = Instant::now();
     let mut repeats = [1u32; 3];
-    while begin.elapsed() < time {
+    let mut left = rounds;
+    while left > 0 {
+        left -= 1;
         for way in 0..3 {
-            let t = Instant::now();
+            let begin = processor_time();
             for _ in 0..repeats[way] {
-                for m in modules {
-                    let n = match way {
-                        0 => proved::rewrite(black_box(m), &mut out),
-                        1 => rewrite_bytes(black_box(m), &mut out),
-                        _ => copied(black_box(m), &mut out),
+                for m in &input.modules {
+                    let m = black_box(m);
+                    let n = match (way, input.call) {
+                        (0, Call::Rewrite) => proved::rewrite(m, &mut out),
+                        (0, Call::Report) => proved::report(m, &mut out),
+                        (1, Call::Rewrite) => rewrite_bytes(m, &mut out),
+                        (1, Call::Report) => report_bytes(m, &mut out),
+                        _ => copied(m, &mut out),
                     };
                     black_box((n, &mut out));
                 }
             }
-            let spent = t.elapsed();
-            least[way] = least[way].min(spent.as_nanos() as f64 / f64::from(repeats[way]));
-            if spent < Duration::from_micros(200) {
+            let spent = processor_time() - begin;
+            if spent < Duration::from_micros(500) {
+                // Too short to be measured well: more calls a round, and the rounds anew.
                 repeats[way] *= 2;
+                left = rounds;
+            } else {
+                least[way] = least[way].min(spent.as_nanos() as f64 / f64::from(repeats[way]));
             }
         }
     }
     least
+}
+
+/// The time that this thread has had, so that other work on the machine counts less.
+fn processor_time() -> Duration {
+    #[repr(C)]
+    struct Timespec {
+        seconds: i64,
+        nanoseconds: i64,
+    }
+    unsafe extern "C" {
+        fn clock_gettime(clock: i32, time: *mut Timespec) -> i32;
+    }
+    const THREAD: i32 = 3;
+    let mut t = Timespec { seconds: 0, nanoseconds: 0 };
+    // SAFETY: t is a timespec as 64-bit Linux has it, and is written only.
+    let failed = unsafe { clock_gettime(THREAD, &mut t) };
+    assert_eq!(failed, 0);
+    Duration::new(t.seconds as u64, t.nanoseconds as u32)
 }
 
 /// Word by word from bytes to bytes.
@@ -172,71 +211,113 @@ fn closed(mut m: Vec<u32>, mut statements: u32, n: usize) -> Vec<u32> {
     m
 }
 
-/// One statement of a family: nested `deep` times, `wide` parts in the innermost place.
-type Family = fn(deep: usize, wide: usize) -> Vec<u32>;
+/// How classes stand in one another: where in the outer one the inner one stands, what else the outer one has, and what fills the innermost.
+#[derive(Clone, Copy)]
+struct Shape {
+    place: Place,
+    class_decorated: bool,
+    member_decorated: bool,
+    filling: Filling,
+}
 
-/// Shapes in which classes stand in one another, or much stands in one class.
-const FAMILIES: &[(&str, Family)] = &[
-    ("decorated classes in static blocks", |deep, wide| nested("4:0 26:1 28:1 9:0 27:0 29:1 33:1", "", deep, "3:", "2:0 9:0", wide)),
-    ("classes in methods, members decorated", |deep, wide| {
-        nested("4:0 26:1 28:0 27:0 29:1 30:4 28:1 9:0 34:1 36:0 39:1", "", deep, "3:", "2:0 9:0", wide)
-    }),
-    ("classes in member decorators", |deep, wide| {
-        nested("4:0 26:1 28:0 27:0 29:1 31:0 28:1 21:0 36:0 39:1", "34:1", deep, "3:", "2:0 9:0", wide)
-    }),
-    ("classes in class decorators", |deep, wide| nested("4:0 26:1 28:1 21:0 36:0 39:1", "27:0 29:0", deep, "3:", "2:0 9:0", wide)),
-    ("classes in computed keys", |deep, wide| {
-        nested("4:0 26:1 28:1 9:0 27:0 29:1 31:0 28:1 9:0 21:0 36:0 39:1", "", deep, "3:", "2:0 9:0", wide)
-    }),
-    ("decorated members of one class", |_, wide| nested("", "", 0, "4:0 26:1 28:1 9:0 27:0 29:", "31:0 28:1 9:0 9:0", wide)),
-    ("expressions in one another", |_, wide| nested("2:0 16:1 16:1 16:1 16:1 16:1 16:1 16:1 16:1", "", 1, "16:", "9:0", wide)),
+/// A name, then the elements in front of the inner class statement and behind it.
+type Place = (&'static str, &'static str, &'static str);
+
+/// A name, then a statement.
+type Filling = (&'static str, &'static str);
+
+const FUNCTION: &str = "21:0 36:0 39:1";
+
+const PLACES: [Place; 9] = [
+    ("a static block", "33:1", ""),
+    ("a method's code", "30:4 28:0 34:1 36:0 39:1", ""),
+    ("a decorated method's code", "30:4 28:1 9:0 34:1 36:0 39:1", ""),
+    ("a constructor's code", "30:6 28:0 34:1 36:0 39:1", ""),
+    ("a member's decorator", "31:0 28:1 FUNCTION", "34:1"),
+    ("a parameter's decorator", "30:0 28:0 34:1 36:1 37:0 28:1 FUNCTION", ""),
+    ("a constructor parameter's decorator", "30:2 28:0 34:1 36:1 37:0 28:1 FUNCTION", ""),
+    ("a decorated member's key", "31:0 28:1 9:0 FUNCTION", ""),
+    ("a property's value", "31:2 28:0 34:1 FUNCTION", ""),
 ];
 
-/// `front` deep times, then a list of `wide` parts, then `back` as often.
-fn nested(front: &str, back: &str, deep: usize, list: &str, part: &str, wide: usize) -> Vec<u32> {
-    let mut m = parsed(front).repeat(deep);
-    m.extend(parsed(&format!("{list}{wide}")));
-    m.extend(parsed(part).repeat(wide));
-    m.extend(parsed(back).repeat(deep));
-    m
+const FILLINGS: [Filling; 3] = [
+    ("expressions", "2:0 9:0"),
+    ("decorated classes", "4:0 26:1 28:1 9:0 27:0 29:0"),
+    ("decorated members", "4:0 26:1 28:0 27:0 29:1 32:0 28:1 9:0 34:1"),
+];
+
+fn shapes() -> impl Iterator<Item = Shape> {
+    PLACES.into_iter().flat_map(|place| {
+        FILLINGS.into_iter().flat_map(move |filling| {
+            [(false, false), (false, true), (true, false), (true, true)].map(|(class_decorated, member_decorated)| Shape {
+                place,
+                class_decorated,
+                member_decorated,
+                filling,
+            })
+        })
+    })
 }
 
-/// A module of exactly n words with the family's statement, as deep and then as wide as it goes.
-fn filled(make: Family, n: usize) -> Vec<u32> {
-    let of = |deep, wide| {
-        let mut m = parsed("1:1 40:1");
-        m.extend(make(deep, wide));
+impl Shape {
+    fn name(&self) -> String {
+        format!(
+            "classes in {}{}{}, {} inside",
+            self.place.0,
+            if self.class_decorated { ", decorated" } else { "" },
+            if self.member_decorated { ", with a decorated member" } else { "" },
+            self.filling.0
+        )
+    }
+
+    /// A statement with `deep` classes in one another and `wide` statements in the innermost.
+    fn statement(&self, deep: usize, wide: usize) -> Vec<u32> {
+        let class = if self.class_decorated { "4:0 26:1 28:1 9:0 27:0" } else { "4:0 26:1 28:0 27:0" };
+        let member = if self.member_decorated { "29:2 32:0 28:1 9:0 34:1" } else { "29:1" };
+        let front = format!("{class} {member} {}", self.place.1.replace("FUNCTION", FUNCTION));
+        let mut m = parsed(&front).repeat(deep);
+        m.push(word(3, wide as u32));
+        m.extend(parsed(self.filling.1).repeat(wide));
+        m.extend(parsed(self.place.2).repeat(deep));
         m
-    };
-    let fits = |m: &[u32]| m.len() <= n && matches!(judge_words(m), Verdict::Accepted(_));
-    let deep = (0..64).take_while(|d| fits(&of(*d, 0))).last().unwrap_or(0);
-    let wide = (0..n).take_while(|w| of(deep, *w).len() <= n).last().unwrap_or(0);
-    let m = of(deep, wide);
-    if !fits(&m) {
-        return without_classes(n);
     }
-    closed(m, 1, n)
+
+    /// A module of exactly n words, as deep and then as wide as it goes.
+    fn module(&self, n: usize) -> Vec<u32> {
+        let of = |deep, wide| {
+            let mut m = parsed("1:1 40:1");
+            m.extend(self.statement(deep, wide));
+            m
+        };
+        let fits = |m: &[u32]| m.len() <= n && matches!(judge_words(m), Verdict::Accepted(_));
+        let deep = (0..MOST_DEPTH as usize).take_while(|d| fits(&of(*d, 1))).last().unwrap_or(0);
+        let wide = (0..n).take_while(|w| of(deep, *w).len() <= n).last().unwrap_or(0);
+        closed(of(deep, wide), 1, n)
+    }
 }
 
-/// Prints the random modules on which the proved rewriter takes longest.
-fn search(n: u64) {
-    let mut by_word: Vec<(f64, f64, Vec<u32>)> = Vec::new();
-    for index in 0..n {
-        let mut r = Random::new(11, index);
-        let size = *r.one(&SIZES);
-        let m = generator::of_size(&mut r, size);
-        if matches!(judge_words(&m), Verdict::Accepted(_)) && m.len() >= 16 {
-            let [ours, rust, _] = measured(&[bytes_of(&m)], Duration::from_millis(2));
-            by_word.push((ours / m.len() as f64, ours / rust, m));
-        }
-    }
-    println!("{} modules measured", by_word.len());
-    for (title, key) in [("ns a word", 0), ("proved : Rust", 1)] {
-        by_word.sort_by(|a, b| if key == 0 { b.0.total_cmp(&a.0) } else { b.1.total_cmp(&a.1) });
-        println!("highest by {title}");
-        for (ns, ratio, m) in by_word.iter().take(5) {
-            let text = shown(m);
-            println!("  {ns:.1} ns a word, proved : Rust {ratio:.2}, {} words: {}", m.len(), &text[..text.len().min(300)]);
-        }
+/// What one shape takes at 4,096 words.
+struct Measured {
+    shape: Shape,
+    ours: f64,
+    rust: f64,
+}
+
+/// Every shape, the slowest for the proved rewriter first.
+fn slowest_first() -> Vec<Measured> {
+    let mut all: Vec<Measured> = shapes()
+        .map(|shape| {
+            let [ours, rust, _] = measured(&Input::one("", &shape.module(MOST_WORDS)), 3);
+            Measured { shape, ours, rust }
+        })
+        .collect();
+    all.sort_by(|a, b| b.ours.total_cmp(&a.ours));
+    all
+}
+
+fn all_shapes() {
+    println!("shapes at {MOST_WORDS} words: proved, ns; proved, ns a word; proved : Rust");
+    for m in slowest_first() {
+        println!("{:>12.0} {:>8.1} {:>7.2}  {}", m.ours, m.ours / MOST_WORDS as f64, m.ours / m.rust, m.shape.name());
     }
 }
