@@ -9,11 +9,11 @@ pub struct Random(u64);
 impl Random {
     pub fn new(seed: u64, index: u64) -> Random {
         let mut r = Random(seed ^ 0x9e37_79b9_7f4a_7c15u64.wrapping_mul(index.wrapping_add(1)));
-        r.next();
+        r.draw();
         r
     }
 
-    pub fn next(&mut self) -> u64 {
+    pub fn draw(&mut self) -> u64 {
         self.0 = self.0.wrapping_add(0x9e37_79b9_7f4a_7c15);
         let mut z = self.0;
         z = (z ^ z >> 30).wrapping_mul(0xbf58_476d_1ce4_e5b9);
@@ -23,7 +23,7 @@ impl Random {
 
     /// 0 to n-1.
     pub fn below(&mut self, n: u32) -> u32 {
-        ((self.next() >> 32) * u64::from(n) >> 32) as u32
+        (((self.draw() >> 32) * u64::from(n)) >> 32) as u32
     }
 
     pub fn percent(&mut self, p: u32) -> bool {
@@ -98,26 +98,49 @@ pub fn deep(r: &mut Random) -> Vec<u32> {
 /// A module of exactly 4,095, 4,096 or 4,097 words.
 pub fn large(r: &mut Random) -> Vec<u32> {
     let length = MOST_WORDS - 1 + r.below(3) as usize;
+    if r.percent(30) {
+        let m = crowded(r, length);
+        return padded(r, m, length);
+    }
     let target = 500 + r.below(3596) as usize;
-    padded(r, target, length)
+    loop {
+        let m = Maker::new(r, target.min(length), MOST_DEPTH).module();
+        if m.len() <= length {
+            return padded(r, m, length);
+        }
+    }
 }
 
-/// A module of exactly this many words, of which about `target` are random and the rest are statements of two words and one.
-pub fn padded(r: &mut Random, target: usize, length: usize) -> Vec<u32> {
+/// The module with as many statements of two words and of one behind it as make this many words.
+fn padded(r: &mut Random, mut m: Vec<u32>, length: usize) -> Vec<u32> {
+    while m.len() < length {
+        m[0] += 1;
+        if m.len() + 1 < length && r.percent(70) {
+            m.extend([word(2, 0), word(8, r.below(1000))]);
+        } else {
+            m.push(word(3, 0));
+        }
+    }
+    m
+}
+
+/// One class with as many short elements as go into this many words: the outputs that are longest for their module.
+fn crowded(r: &mut Random, length: usize) -> Vec<u32> {
+    const HEADS: [&str; 4] = ["4:0 26:1 28:0 27:0", "4:1 26:1 28:1 9:0 27:0", "4:2 26:0 28:1 19:0 8:0", "4:2 26:0 28:0"];
+    const ELEMENTS: [&str; 6] =
+        ["31:0 28:1 9:0 9:0", "31:1 28:1 8:0 34:1", "32:1 28:1 9:0 13:0", "30:0 28:0 35:1 36:1 37:0 28:1 9:0", "30:2 28:0 34:1 36:0", "33:0"];
+    let kinds = 1 + r.below(ELEMENTS.len() as u32) as usize;
+    let mut m = parsed("1:1 40:1");
+    m.extend(parsed(*r.one(&HEADS)));
+    let body = m.len();
+    m.push(word(29, 0));
     loop {
-        let mut m = Maker::new(r, target.min(length), MOST_DEPTH).module();
-        if m.len() > length {
-            continue;
+        let element = parsed(*r.one(&ELEMENTS[..kinds]));
+        if m.len() + element.len() > length {
+            return m;
         }
-        while m.len() < length {
-            m[0] += 1;
-            if m.len() + 1 < length && r.percent(70) {
-                m.extend([word(2, 0), word(8, r.below(1000))]);
-            } else {
-                m.push(word(3, 0));
-            }
-        }
-        return m;
+        m.extend(element);
+        m[body] += 1;
     }
 }
 
@@ -243,7 +266,11 @@ impl Maker<'_> {
         if self.diving {
             return 1 + self.r.below(most.max(1));
         }
-        if self.has_room() { self.r.below(most + 1) } else { 0 }
+        if !self.has_room() {
+            return 0;
+        }
+        // Now and then a long list, up to the 255 children that a 25 can have.
+        if self.r.below(150) == 0 { *self.r.one(&[12, 40, 255]) } else { self.r.below(most + 1) }
     }
 
     fn symbol(&mut self) -> u32 {
@@ -329,7 +356,7 @@ impl Maker<'_> {
             self.put(27, s);
             id = Some(s);
         }
-        if self.r.percent(self.taste.heritage) && depth + 1 <= self.limit {
+        if self.r.percent(self.taste.heritage) && depth < self.limit {
             flags += 4;
             // A class that isn't yet around is named in its heritage too.
             if let (Some(s), true) = (id, self.r.percent(20)) {
@@ -359,7 +386,7 @@ impl Maker<'_> {
         self.put(28, 0);
         self.reached(depth);
         let mut n = 0;
-        while n < 3 && depth + 1 <= self.limit && self.r.percent(if n == 0 { percent } else { 25 }) {
+        while n < 3 && depth < self.limit && self.r.percent(if n == 0 { percent } else { 25 }) {
             self.decorator(depth + 1);
             n += 1;
         }
@@ -367,7 +394,7 @@ impl Maker<'_> {
     }
 
     fn decorator(&mut self, depth: u32) {
-        if self.r.percent(self.taste.private_in) && depth + 1 <= self.limit {
+        if self.r.percent(self.taste.private_in) && depth < self.limit {
             match self.r.below(3) {
                 0 if depth + 2 <= self.limit => {
                     self.put(17, 0);

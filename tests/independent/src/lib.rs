@@ -29,7 +29,7 @@ pub enum Verdict {
 
 /// Judges a module's bytes by refusals 1 to 7, and rewrites it.
 pub fn judge(module: &[u8]) -> Verdict {
-    if module.len() % 4 != 0 {
+    if !module.len().is_multiple_of(4) {
         return Verdict::Refused(1);
     }
     judge_words(&words_of(module))

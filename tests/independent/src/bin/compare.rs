@@ -123,7 +123,7 @@ impl Comparison {
         let mut bytes = bytes_of(m);
         if r.below(500) == 0 {
             let n = 1 + r.below(3);
-            bytes.extend((0..n).map(|_| r.next() as u8));
+            bytes.extend((0..n).map(|_| r.draw() as u8));
             self.counts.odd_input += 1;
         }
         let odd = r.below(4) as usize;
@@ -369,14 +369,14 @@ fn smaller(m: &[u32], differs: &dyn Fn(&[u32]) -> bool) -> Option<Vec<u32>> {
             }
         }
     }
-    for at in 0..m.len() {
+    for (at, w) in m.iter().enumerate() {
         let s = changed(at, at + 1, &[]);
         if differs(&s) {
             return Some(s);
         }
-        let p = payload(m[at]);
+        let p = payload(*w);
         for lower in [0, p / 2, p.saturating_sub(1)] {
-            let s = changed(at, at + 1, &[word(kind(m[at]), lower)]);
+            let s = changed(at, at + 1, &[word(kind(*w), lower)]);
             if lower < p && differs(&s) {
                 return Some(s);
             }
