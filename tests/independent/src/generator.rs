@@ -131,11 +131,11 @@ fn crowded(r: &mut Random, length: usize) -> Vec<u32> {
         ["31:0 28:1 9:0 9:0", "31:1 28:1 8:0 34:1", "32:1 28:1 9:0 13:0", "30:0 28:0 35:1 36:1 37:0 28:1 9:0", "30:2 28:0 34:1 36:0", "33:0"];
     let kinds = 1 + r.below(ELEMENTS.len() as u32) as usize;
     let mut m = parsed("1:1 40:1");
-    m.extend(parsed(*r.one(&HEADS)));
+    m.extend(parsed(r.one::<&str>(&HEADS)));
     let body = m.len();
     m.push(word(29, 0));
     loop {
-        let element = parsed(*r.one(&ELEMENTS[..kinds]));
+        let element = parsed(r.one::<&str>(&ELEMENTS[..kinds]));
         if m.len() + element.len() > length {
             return m;
         }

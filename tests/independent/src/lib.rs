@@ -2,6 +2,7 @@
 //! It shares no code and no table with the proved crates, so that a rule read differently shows as a difference. It is not the pass of
 //! oxc_transformer, and nothing that is shipped links it.
 
+pub mod comparison;
 pub mod features;
 pub mod generator;
 pub mod reading;

@@ -1,6 +1,7 @@
 //! Document 01's example, and cases worked out by hand from its rules and its table of refusals.
 
-use crate::generator::{self, Origin};
+use crate::comparison::{Comparison, Entries, Entry, shrunk};
+use crate::generator::{self, Origin, Random};
 use crate::reading::{self, Fault};
 use crate::{Verdict, bytes_of, judge, judge_words, packed, parsed, report_bytes, rewrite_bytes, shown, word};
 
@@ -266,4 +267,111 @@ fn every_short_list() {
     let from_1_1 = "1:1,1:1 1:0,1:1 1:1,1:1 40:0,1:1 40:0 1:0,1:1 40:0 1:1,1:1 40:0 40:0,1:1 40:0 3:0,1:1 40:0 3:0 1:0,1:1 3:0";
     let from_1_0 = "1:0,1:0 1:0,1:0 1:1,1:0 40:0,1:0 40:0 1:0,1:0 3:0";
     assert_eq!(lists.join(","), format!(",{from_1_0},{from_1_1},40:0,3:0"));
+}
+
+const SAME: Entries = Entries { rewrite: rewrite_bytes, report: report_bytes };
+
+#[test]
+fn no_difference_from_itself() {
+    let mut c = Comparison::new(SAME);
+    for index in 0..2000 {
+        let (origin, m) = generator::case(6, index);
+        c.case(&m, origin, &mut Random::new(7, index)).unwrap();
+    }
+}
+
+/// Calls that are wrong in one way each.
+const WRONG: [Entry; 7] = [
+    // A number that is wrong: the fresh symbols, a refusal.
+    |m, out| rewrite_bytes(m, out) + (1 << 36) * u64::from(m.len() == 56),
+    |m, out| match rewrite_bytes(m, out) {
+        7 => 6,
+        n => n,
+    },
+    // A word, a byte behind the words, a byte after a refusal.
+    |m, out| {
+        let n = rewrite_bytes(m, out);
+        if n & 0xff == 0 && m.len() == 56 {
+            out[4] ^= 1;
+        }
+        n
+    },
+    |m, out| {
+        let n = rewrite_bytes(m, out);
+        let end = 4 * (n >> 8 & 0xfff_ffff) as usize;
+        if n & 0xff == 0 && end < out.len() {
+            out[end] ^= 0x80;
+        }
+        n
+    },
+    |m, out| {
+        let n = rewrite_bytes(m, out);
+        if n == 4 && !out.is_empty() {
+            out[0] ^= 1;
+        }
+        n
+    },
+    // An exact fit refused, and one word too few written.
+    |m, out| match rewrite_bytes(m, out) {
+        n if n & 0xff == 0 && 4 * (n >> 8 & 0xfff_ffff) == out.len() as u64 => 8,
+        n => n,
+    },
+    |m, out| {
+        let mut large = vec![0; 50_000];
+        let n = rewrite_bytes(m, &mut large);
+        let fits = large.len().min(out.len());
+        out[..fits].copy_from_slice(&large[..fits]);
+        n
+    },
+];
+
+#[test]
+fn every_difference_is_found() {
+    let modules = [EXAMPLE, "1:1 40:0 2:0 9:0", "1:1 40:1 4:0 26:1 28:0 27:0 29:2 30:2 28:0 34:1 36:0 30:2 28:0 34:1 36:1 37:0 28:1 8:1"];
+    for (i, rewrite) in WRONG.into_iter().enumerate() {
+        let mut c = Comparison::new(Entries { rewrite, ..SAME });
+        assert!(modules.iter().any(|m| c.with_all_lengths(&bytes_of(&parsed(m))).is_err()), "wrong call {i}");
+    }
+}
+
+#[test]
+fn every_difference_of_a_report_is_found() {
+    // Two keys and a default symbol: any order is right; a word twice, or of another kind, isn't.
+    let module = bytes_of(&parsed("1:1 40:1 4:2 26:0 28:0 29:2 31:0 28:1 9:0 9:0 31:0 28:1 9:0 9:0"));
+    let reversed: Entry = |m, out| {
+        let n = report_bytes(m, out);
+        if n & 0xff == 0 && n >> 36 == 3 {
+            let (first, rest) = out.split_at_mut(4);
+            first.swap_with_slice(&mut rest[4..8]);
+        }
+        n
+    };
+    assert_eq!(Comparison::new(Entries { report: reversed, ..SAME }).with_all_lengths(&module), Ok(()));
+    let twice: Entry = |m, out| {
+        let n = report_bytes(m, out);
+        if n & 0xff == 0 && n >> 36 == 3 {
+            out.copy_within(0..4, 4);
+        }
+        n
+    };
+    assert!(Comparison::new(Entries { report: twice, ..SAME }).with_all_lengths(&module).is_err());
+    let other_kind: Entry = |m, out| {
+        let n = report_bytes(m, out);
+        if n & 0xff == 0 && n >> 36 == 3 {
+            out[3] ^= 8;
+        }
+        n
+    };
+    assert!(Comparison::new(Entries { report: other_kind, ..SAME }).with_all_lengths(&module).is_err());
+}
+
+#[test]
+fn a_difference_is_made_smaller() {
+    // Wrong wherever a 19 is read, so that the smallest module has little more.
+    let wrong: Entry = |m, out| match rewrite_bytes(m, out) {
+        n if n & 0xff == 0 && m.chunks(4).any(|w| w[3] >> 2 == 19) => n + 256,
+        n => n,
+    };
+    let module = parsed("1:2 40:2 4:0 26:1 28:1 9:0 27:1 29:1 31:2 28:0 34:1 17:1 9:0 19:3 9:1 3:1 2:0 8:5");
+    assert_eq!(shown(&shrunk(&module, Entries { rewrite: wrong, ..SAME })), "1:1 40:0 2:0 19:0 8:0");
 }
