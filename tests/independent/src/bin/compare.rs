@@ -11,7 +11,7 @@ use std::time::Instant;
 mod proved;
 
 const USAGE: &str = "compare [--modules N] [--seed K] [--long] [--index I] [--help]
-  --modules N  random modules (default 400000)
+  --modules N  random modules (default 200000)
   --seed K     what they are made from (default 1)
   --long       longer lists in the exhaustive part
   --index I    only the random module I of this seed";
@@ -24,7 +24,7 @@ struct Options {
 }
 
 fn options() -> Option<Options> {
-    let mut o = Options { modules: 400_000, seed: 1, long: false, index: None };
+    let mut o = Options { modules: 200_000, seed: 1, long: false, index: None };
     let mut args = std::env::args().skip(1);
     while let Some(a) = args.next() {
         match a.as_str() {
