@@ -15,6 +15,27 @@ pub struct Entries {
     pub report: Entry,
 }
 
+/// How long an output is against the answer; nothing stands for the answer to a refused module.
+#[derive(Clone, Copy)]
+enum Lent {
+    None,
+    Shorter,
+    Exact,
+    Longer(usize),
+}
+
+impl Lent {
+    /// The words lent for an answer of n words. None is shorter than no words.
+    fn words(self, n: usize) -> Option<usize> {
+        match self {
+            Lent::None => Some(0),
+            Lent::Shorter => n.checked_sub(1),
+            Lent::Exact => Some(n),
+            Lent::Longer(more) => Some(n + more),
+        }
+    }
+}
+
 pub struct Comparison {
     entries: Entries,
     pub counts: Counts,
@@ -37,7 +58,8 @@ impl Comparison {
         format!("DIFFERENCE ({origin})\n{difference}\nmodule: {}\nshrunk: {}\n{d}", shown(m), shown(&small))
     }
 
-    /// A module with lengths of output drawn from `r`, and now and then with bytes that make no word.
+    /// A module with an output of the exact length, with one word less, and with a length drawn from `r`; now and then with bytes that make no
+    /// word.
     pub fn case(&mut self, m: &[u32], origin: Origin, r: &mut Random) -> Result<(), String> {
         let mut bytes = bytes_of(m);
         if r.below(500) == 0 {
@@ -45,19 +67,25 @@ impl Comparison {
             bytes.extend((0..n).map(|_| r.draw() as u8));
             self.counts.odd_input += 1;
         }
-        let odd = r.below(4) as usize;
-        let more = if r.below(200) == 0 { 13_000 } else { 2 + r.below(40) as usize };
         self.counts.origins[origin as usize] += 1;
-        self.compare(&bytes, &[more], odd)
+        let odd = r.below(4) as usize;
+        let drawn = match r.below(200) {
+            0 => Lent::Longer(13_000),
+            1..60 => Lent::Longer(1),
+            60..100 => Lent::None,
+            _ => Lent::Longer(2 + r.below(40) as usize),
+        };
+        self.compare(&bytes, &[Lent::Exact, Lent::Shorter, drawn], odd)
     }
 
     /// A module with every length and every number of odd bytes.
     pub fn with_all_lengths(&mut self, bytes: &[u8]) -> Result<(), String> {
-        (0..4).try_for_each(|odd| self.compare(bytes, &[2, 40, 13_000], odd))
+        let lengths = [Lent::Exact, Lent::Shorter, Lent::None, Lent::Longer(1), Lent::Longer(40), Lent::Longer(13_000)];
+        (0..4).try_for_each(|odd| self.compare(bytes, &lengths, odd))
     }
 
-    /// Both calls on a module: with the exact length, one word less, one more, none, and `more` words beyond, `odd` bytes behind each.
-    fn compare(&mut self, bytes: &[u8], more: &[usize], odd: usize) -> Result<(), String> {
+    /// Both calls on a module, `odd` bytes behind each length.
+    fn compare(&mut self, bytes: &[u8], lengths: &[Lent], odd: usize) -> Result<(), String> {
         let verdict = judge(bytes);
         self.counts.count(bytes, &verdict);
         let (code, words, report) = match &verdict {
@@ -67,16 +95,12 @@ impl Comparison {
         let Entries { rewrite, report: report_entry } = self.entries;
         let entries: [(&str, Entry, &[u32]); 2] = [("rewrite", rewrite, words), ("report", report_entry, &report)];
         for (name, entry, expected) in entries {
-            let n = expected.len();
-            let mut lengths = vec![n, n + 1, 0];
-            lengths.extend(n.checked_sub(1));
-            lengths.extend(more.iter().map(|m| n + m));
-            for length in lengths {
-                let code = if code == 0 && length < n { 8 } else { code };
+            for lent in lengths {
+                let Some(length) = lent.words(expected.len()) else { continue };
+                let code = if code == 0 && length < expected.len() { 8 } else { code };
                 let written: &[u32] = if code == 0 { expected } else { &[] };
                 let number = packed(code, written.len(), if code == 0 { report.len() } else { 0 });
-                self.counts.calls += 1;
-                self.counts.answers[code as usize] += 1;
+                self.counts.call(code, *lent);
                 self.one_call(entry, bytes, 4 * length + odd, number, written, name == "report")
                     .map_err(|d| format!("{name} with {length} words and {odd} bytes lent: {d}"))?;
             }
@@ -125,6 +149,8 @@ pub struct Counts {
     verdicts: [u64; 8],
     /// Calls by the code expected.
     answers: [u64; 9],
+    /// Calls by the words lent: none, one too few, as many as the answer has, one more, more.
+    lent: [u64; 5],
     odd_input: u64,
     longest_output: usize,
     most_fresh: usize,
@@ -135,6 +161,19 @@ pub struct Counts {
 }
 
 impl Counts {
+    fn call(&mut self, code: u8, lent: Lent) {
+        self.calls += 1;
+        self.answers[code as usize] += 1;
+        let n = match lent {
+            Lent::None => 0,
+            Lent::Shorter => 1,
+            Lent::Exact => 2,
+            Lent::Longer(1) => 3,
+            Lent::Longer(_) => 4,
+        };
+        self.lent[n] += 1;
+    }
+
     fn count(&mut self, bytes: &[u8], verdict: &Verdict) {
         self.modules += 1;
         let words = words_of(bytes);
@@ -175,6 +214,10 @@ impl Counts {
         writeln!(t, "calls by code answered").unwrap();
         for (code, n) in self.answers.iter().enumerate() {
             line(&mut t, &code.to_string(), *n);
+        }
+        writeln!(t, "calls by the words lent").unwrap();
+        for (name, n) in ["none", "one too few", "exactly as many as the answer has", "one more", "several more"].iter().zip(self.lent) {
+            line(&mut t, name, n);
         }
         writeln!(t, "modules at a boundary").unwrap();
         for (n, d) in self.depths.iter().zip(63..) {
