@@ -48,15 +48,15 @@ pub enum Origin {
 /// A module of a random run.
 pub fn case(seed: u64, index: u64) -> (Origin, Vec<u32>) {
     let mut r = Random::new(seed, index);
-    let lot = r.below(1000);
+    let lot = r.below(2000);
     match lot {
-        0..2 => (Origin::Large, large(&mut r)),
-        2..42 => (Origin::Deep, deep(&mut r)),
-        42..62 => {
+        0 => (Origin::Large, large(&mut r)),
+        1..80 => (Origin::Deep, deep(&mut r)),
+        80..120 => {
             let m = deep(&mut r);
             (Origin::Damaged, damaged(&mut r, m))
         }
-        62..400 => {
+        120..800 => {
             let m = good(&mut r);
             (Origin::Damaged, damaged(&mut r, m))
         }
@@ -66,11 +66,11 @@ pub fn case(seed: u64, index: u64) -> (Origin, Vec<u32>) {
 
 /// A good module of a random size, most of them small.
 pub fn good(r: &mut Random) -> Vec<u32> {
-    let target = match r.below(100) {
-        0..15 => 3 + r.below(10),
-        15..60 => 8 + r.below(40),
-        60..90 => 40 + r.below(110),
-        90..99 => 150 + r.below(350),
+    let target = match r.below(400) {
+        0..60 => 3 + r.below(10),
+        60..240 => 8 + r.below(40),
+        240..379 => 40 + r.below(110),
+        379..399 => 150 + r.below(350),
         _ => 500 + r.below(1500),
     };
     of_size(r, target as usize)
