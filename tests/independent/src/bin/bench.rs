@@ -220,24 +220,25 @@ struct Shape {
     filling: Filling,
 }
 
-/// A name, then the elements in front of the inner class statement and behind it.
+/// A name, then what stands in front of the inner class statement and behind it. DECORATORS stands for the class's, BODY for the 29 and what it
+/// has besides the element that follows, ALONE for a 29 with nothing else, FUNCTION for the records around a statement in an expression.
 type Place = (&'static str, &'static str, &'static str);
 
 /// A name, then a statement.
 type Filling = (&'static str, &'static str);
 
-const FUNCTION: &str = "21:0 36:0 39:1";
-
-const PLACES: [Place; 9] = [
-    ("a static block", "33:1", ""),
-    ("a method's code", "30:4 28:0 34:1 36:0 39:1", ""),
-    ("a decorated method's code", "30:4 28:1 9:0 34:1 36:0 39:1", ""),
-    ("a constructor's code", "30:6 28:0 34:1 36:0 39:1", ""),
-    ("a member's decorator", "31:0 28:1 FUNCTION", "34:1"),
-    ("a parameter's decorator", "30:0 28:0 34:1 36:1 37:0 28:1 FUNCTION", ""),
-    ("a constructor parameter's decorator", "30:2 28:0 34:1 36:1 37:0 28:1 FUNCTION", ""),
-    ("a decorated member's key", "31:0 28:1 9:0 FUNCTION", ""),
-    ("a property's value", "31:2 28:0 34:1 FUNCTION", ""),
+const PLACES: [Place; 11] = [
+    ("a static block", "4:0 26:1 DECORATORS 27:0 BODY 33:1", ""),
+    ("a method's code", "4:0 26:1 DECORATORS 27:0 BODY 30:4 28:0 34:1 36:0 39:1", ""),
+    ("a decorated method's code", "4:0 26:1 DECORATORS 27:0 BODY 30:4 28:1 9:0 34:1 36:0 39:1", ""),
+    ("a constructor's code", "4:0 26:1 DECORATORS 27:0 BODY 30:6 28:0 34:1 36:0 39:1", ""),
+    ("a member's decorator", "4:0 26:1 DECORATORS 27:0 BODY 31:0 28:1 FUNCTION", "34:1"),
+    ("a parameter's decorator", "4:0 26:1 DECORATORS 27:0 BODY 30:0 28:0 34:1 36:1 37:0 28:1 FUNCTION", ""),
+    ("a constructor parameter's decorator", "4:0 26:1 DECORATORS 27:0 BODY 30:2 28:0 34:1 36:1 37:0 28:1 FUNCTION", ""),
+    ("a decorated member's key", "4:0 26:1 DECORATORS 27:0 BODY 31:0 28:1 9:0 FUNCTION", ""),
+    ("a property's value", "4:0 26:1 DECORATORS 27:0 BODY 31:2 28:0 34:1 FUNCTION", ""),
+    ("the heritage", "4:0 26:5 DECORATORS 27:0 FUNCTION", "ALONE"),
+    ("a class decorator", "4:0 26:1 28:1 FUNCTION", "27:0 ALONE"),
 ];
 
 const FILLINGS: [Filling; 3] = [
@@ -272,13 +273,16 @@ impl Shape {
 
     /// A statement with `deep` classes in one another and `wide` statements in the innermost.
     fn statement(&self, deep: usize, wide: usize) -> Vec<u32> {
-        let class = if self.class_decorated { "4:0 26:1 28:1 9:0 27:0" } else { "4:0 26:1 28:0 27:0" };
-        let member = if self.member_decorated { "29:2 32:0 28:1 9:0 34:1" } else { "29:1" };
-        let front = format!("{class} {member} {}", self.place.1.replace("FUNCTION", FUNCTION));
-        let mut m = parsed(&front).repeat(deep);
+        let decorators = if self.class_decorated { "28:1 9:0" } else { "28:0" };
+        let (body, alone) = if self.member_decorated { ("29:2 32:0 28:1 9:0 34:1", "29:1 32:0 28:1 9:0 34:1") } else { ("29:1", "29:0") };
+        let records = |text: &str| {
+            let text = text.replace("DECORATORS", decorators).replace("BODY", body).replace("ALONE", alone);
+            parsed(&text.replace("FUNCTION", "21:0 36:0 39:1"))
+        };
+        let mut m = records(self.place.1).repeat(deep);
         m.push(word(3, wide as u32));
         m.extend(parsed(self.filling.1).repeat(wide));
-        m.extend(parsed(self.place.2).repeat(deep));
+        m.extend(records(self.place.2).repeat(deep));
         m
     }
 
