@@ -1,0 +1,359 @@
+// Comparison 1: what is done to both sides before their records are compared, and the kinds of difference that docs/DIFFERENCES.md lists.
+// A kind says exactly what separates the two: it changes the module as read, our records or the compiler's, and afterwards they must be equal.
+'use strict';
+const { record, copy, walk, map } = require('./words.js');
+const { isHeading, HEADING, SORT } = require('./forms.js');
+
+const LISTS = new Set([1, 3, 33, 39]);
+const bodyOf = (c) => c.children[c.children.length - 1];
+const equal = (x, y) => x.kind === y.kind && x.payload === y.payload && x.children.every((c, i) => equal(c, y.children[i]));
+const contains = (r, test) => test(r) || r.children.some((c) => contains(c, test));
+const names = (symbol) => (r) => (r.kind === 9 || r.kind === 18 || r.kind === 27) && r.payload === symbol;
+const rename = (r, from, to) => map(r, (x) => (names(from)(x) ? record(x.kind, to, ...x.children) : x));
+
+// Changes every list of statements, innermost first; `change` has the statements and answers others.
+function inLists(module, change) {
+  return map(module, (r) => {
+    if (!LISTS.has(r.kind)) return r;
+    const head = r.kind === 1 ? [r.children[0]] : [];
+    const made = record(r.kind, 0, ...head, ...change(r.children.slice(head.length)));
+    made.payload = made.children.length - head.length;
+    return made;
+  });
+}
+
+// Changes every class that stands in a class statement, innermost first.
+function inStatements(module, change) {
+  return map(module, (r) => (r.kind === 4 ? record(4, r.payload, change(r.children[0])) : r));
+}
+
+function withElements(c, elements) {
+  return record(26, c.payload, ...c.children.slice(0, -1), record(29, elements.length, ...elements));
+}
+
+const isConstructor = (e) => e.kind === 30 && (e.payload & 2) !== 0;
+const hasCode = (e) => e.kind === 30 && (e.payload & 4) !== 0;
+
+// An element without its decorators; `parts` says which: its own, its parameters', or both.
+function stripped(e, parts = { own: true, parameters: true }) {
+  const bare = (x) => record(x.kind, x.payload, record(28, 0), ...x.children.slice(1));
+  const made = parts.own && e.kind !== 33 ? bare(e) : copy(e);
+  if (!parts.parameters) return made;
+  return record(made.kind, made.payload, ...made.children.map((x) => (x.kind === 36 ? record(36, x.payload, ...x.children.map(bare)) : x)));
+}
+
+function sortOf(e) {
+  const first = hasCode(e) && e.children[3].children[0];
+  const x = first && first.kind === 2 ? first.children[0] : null;
+  return x && x.kind === 25 && isHeading(x.payload >> 8) ? (x.payload >> 8) - HEADING : 0;
+}
+
+const isMemberCall = (s) => s.kind === 2 && s.children[0].kind === 22 && s.children[0].payload === 4;
+const callOf = (s) => ({ array: s.children[0].children[0], prefix: s.children[0].children[1], name: s.children[0].children[2] });
+
+const sideOf = (s) => (callOf(s).prefix.kind === 24 ? 0 : 1);
+const symbolOf = (s) => (sideOf(s) ? callOf(s).prefix : callOf(s).prefix.children[0]).payload;
+
+// The sides of the decorated members, 1 for static, of the class statement with that symbol as id; a fresh symbol is a nameless class's.
+function sidesOf(read, symbol) {
+  const isDecorated = (e) => e.children[0].payload > 0 || e.children.some((x) => x.kind === 36 && x.children.some((p) => p.children[0].payload > 0));
+  let sides = [];
+  walk(read, (r) => {
+    if (r.kind !== 4) return;
+    const c = r.children[0];
+    const isNamed = (c.payload & 1) !== 0;
+    if (isNamed ? c.children[1].payload !== symbol : symbol < read.children[0].payload) return;
+    sides = bodyOf(c).children.filter((e) => e.kind !== 33 && !isConstructor(e) && isDecorated(e)).map((e) => e.payload & 1);
+  });
+  return sides;
+}
+
+// A statement of rule 8: { symbol, alias, class }, or null.
+function letOf(s) {
+  if (s.kind !== 5) return null;
+  const value = s.children[0];
+  const inner = value.kind === 18 ? value.children[0] : value;
+  if (inner.kind !== 20) return null;
+  return { symbol: s.payload, alias: value.kind === 18 ? value.payload : null, class: inner.children[0] };
+}
+
+// A statement of rule 7: { symbol, alias, call }, or null.
+function assignmentOf(s) {
+  if (s.kind !== 2 || s.children[0].kind !== 18) return null;
+  const outer = s.children[0];
+  const value = outer.children[0];
+  const call = value.kind === 18 ? value.children[0] : value;
+  if (call.kind !== 22 || call.payload !== 2) return null;
+  return { symbol: outer.payload, alias: value.kind === 18 ? value.payload : null, call };
+}
+
+const letStatement = (symbol, alias, c) => {
+  const value = record(20, 0, c);
+  return record(5, symbol, alias === null ? value : record(18, alias, value));
+};
+const assignment = (symbol, alias, call) => record(2, 0, record(18, symbol, alias === null ? call : record(18, alias, call)));
+
+// Each decorated class of a list: the let at `at`, its assignment at `end`, the statements between them.
+function* decoratedClasses(statements) {
+  for (let at = 0; at < statements.length; at += 1) {
+    const l = letOf(statements[at]);
+    if (l) {
+      let end = at + 1;
+      while (end < statements.length && isMemberCall(statements[end])) end += 1;
+      const a = end < statements.length ? assignmentOf(statements[end]) : null;
+      if (a && a.symbol === l.symbol) yield { at, end, let: l, assignment: a };
+    }
+  }
+}
+
+// The compiler erases types. The same records are left out of ours: classes that are declare, methods and constructors without code, abstract accessors.
+function erase(module) {
+  return map(inLists(module, (statements) => statements.filter((s) => s.kind !== 4 || !(s.children[0].payload & 2))), (r) => {
+    if (r.kind !== 29) return r;
+    const elements = r.children.filter((e) => (e.kind !== 30 || hasCode(e)) && e.kind !== 32);
+    return record(29, elements.length, ...elements);
+  });
+}
+
+// Symbols by first use; the 40 holds their number.
+function renumber(module) {
+  const order = new Map();
+  const made = map(module, copy);
+  walk(made, (r) => {
+    if (![5, 6, 7, 9, 18, 27].includes(r.kind)) return;
+    if (!order.has(r.payload)) order.set(r.payload, order.size);
+    r.payload = order.get(r.payload);
+  });
+  made.children[0].payload = order.size;
+  return made;
+}
+
+// The kinds of difference, under their names in docs/DIFFERENCES.md. `read` changes the module as read, which is then rewritten; `ours` and `theirs`
+// change the rewritten records and the compiler's. They are applied in this order.
+const KINDS = {
+  // 1: the compiler puts the calls of instance members first. Ours must stand in the order of the elements read.
+  'member-order': {
+    ours: (module, { read }) => inLists(module, (statements) => {
+      const made = [];
+      for (let i = 0; i < statements.length;) {
+        let end = i;
+        while (end < statements.length && isMemberCall(statements[end])) end += 1;
+        const run = statements.slice(i, end);
+        const inOrder = run.length === 0 || sidesOf(read, symbolOf(run[0])).join() === run.map(sideOf).join();
+        made.push(...(inOrder ? [...run.filter((s) => !sideOf(s)), ...run.filter(sideOf)] : run));
+        if (end < statements.length) made.push(statements[end]);
+        i = end + 1;
+      }
+      return made;
+    }),
+  },
+
+  // 2: beside a private-in test in a member's decorator the compiler keeps the class assignment.
+  'lost-assignment': {
+    ours: innerIsClass,
+    theirs: (module) => inLists(module, (statements) => {
+      const made = statements.slice();
+      for (const k of [...decoratedClasses(statements)].reverse()) {
+        const last = bodyOf(k.let.class).children.at(-1);
+        if (last && last.kind === 33 && last.children.length > 0 && last.children.every(isMemberCall)) keepStatement(made, k, k.let.class);
+      }
+      return made;
+    }),
+  },
+
+  // 3: the compiler's constructor is the one with code.
+  'codeless-constructor': {
+    read: (module) => inStatements(module, (c) => withElements(c, bodyOf(c).children.filter((e) => !isConstructor(e) || hasCode(e)))),
+  },
+
+  // 4: the compiler has no call for a method without code.
+  'codeless-member': {
+    read: (module) => inStatements(module, (c) => withElements(c, bodyOf(c).children.map((e) => (
+      e.kind === 30 && !hasCode(e) && !isConstructor(e) ? stripped(e) : e)))),
+  },
+
+  // 5: the compiler has one call for a getter and a setter, from the first that is decorated itself, with the setter's parameter.
+  'joined-accessors': {
+    read: (module) => inStatements(module, (c) => {
+      const elements = bodyOf(c).children;
+      return withElements(c, elements.map((e) => {
+        const pair = accessorPair(elements, e);
+        if (!pair) return e;
+        if (!pair.decorated) return stripped(e, { parameters: true });
+        return pair.decorated === e ? e : stripped(e, { own: true });
+      }));
+    }),
+    ours: (module, { read }) => {
+      const pairs = [];
+      walk(read, (r) => {
+        if (r.kind !== 29) return;
+        for (const e of r.children) {
+          const pair = accessorPair(r.children, e);
+          if (pair && pair.decorated === e && pair.setter && pair.setter !== e) pairs.push(e.children[1].payload);
+        }
+      });
+      return inLists(module, (statements) => {
+        const made = statements.slice();
+        for (let i = 0; i < made.length; i += 1) {
+          if (isMemberCall(made[i]) && pairs.includes(callOf(made[i]).name.payload)) {
+            const { prefix, name, array } = callOf(made[i]);
+            const j = made.findIndex((s, k) => k > i && isMemberCall(s) && equal(callOf(s).prefix, prefix) && equal(callOf(s).name, name));
+            if (j > i) {
+              const joined = [...array.children, ...callOf(made[j]).array.children];
+              const parts = made[i].children[0].children.slice(1);
+              made[i] = record(2, 0, record(22, 4, record(16, joined.length, ...joined), ...parts));
+              made.splice(j, 1);
+            }
+          }
+        }
+        return made;
+      });
+    },
+  },
+
+  // 6: the compiler's alias stands for the class in its heritage and decorators, too, and is made for a use in a type.
+  'alias-outside-body': {
+    theirs: (module) => inLists(module, (statements) => {
+      const made = statements.slice();
+      for (const { at, end, let: l, assignment: k } of decoratedClasses(statements)) {
+        if (l.alias !== null) {
+          const back = (r) => rename(r, l.alias, l.symbol);
+          const used = contains(bodyOf(l.class), names(l.alias));
+          const c = record(26, l.class.payload, ...l.class.children.slice(0, -1).map(back), bodyOf(l.class));
+          made[at] = letStatement(l.symbol, used ? l.alias : null, c);
+          for (let i = at + 1; i < end; i += 1) made[i] = back(made[i]);
+          made[end] = assignment(l.symbol, used ? l.alias : null, back(k.call));
+        }
+      }
+      return made;
+    }),
+  },
+
+  // 7: the compiler has no block that assigns the alias before static values and blocks.
+  'alias-block': {
+    ours: (module) => inLists(module, (statements) => {
+      const made = statements.slice();
+      for (const { at, let: l, assignment: k } of decoratedClasses(statements)) {
+        const first = bodyOf(l.class).children[0];
+        const block = record(33, 1, record(2, 0, record(18, k.alias, record(15, 0))));
+        if (k.alias !== null && l.alias === null && first.children.length === 1 && equal(first, block)) {
+          made[at] = letStatement(l.symbol, k.alias, withElements(l.class, bodyOf(l.class).children.slice(1)));
+        }
+      }
+      return made;
+    }),
+  },
+
+  // 8: the compiler makes no alias for a class that has only parameters decorated.
+  'no-alias-for-parameters': {
+    ours: (module) => inLists(module, (statements) => {
+      const made = statements.slice();
+      for (const { at, end, let: l, assignment: k } of decoratedClasses(statements)) {
+        if (k.alias !== null && k.call.children[0].children.every((e) => e.kind === 23)) {
+          const inner = l.class.children[1].payload;
+          const hasBlock = l.alias === null;
+          const c = rename(l.class, k.alias, inner);
+          made[at] = letStatement(l.symbol, null, hasBlock ? withElements(c, bodyOf(c).children.slice(1)) : c);
+          made[end] = assignment(l.symbol, null, rename(k.call, k.alias, inner));
+        }
+      }
+      return made;
+    }),
+  },
+
+  // 9: the compiler copies any literal key, and `this`.
+  'copied-key': {
+    ours: (module, { tables }) => {
+      const keys = new Map();
+      const isCopied = (r) => r.kind === 15 || (r.kind === 8 && /^(true|false|[\d.].*[^n]|\d)$/.test(tables.atoms[r.payload]));
+      const bare = map(module, (r) => {
+        if ((r.kind !== 30 && r.kind !== 31) || r.children[1].kind !== 18 || !isCopied(r.children[1].children[0])) return r;
+        keys.set(r.children[1].payload, r.children[1].children[0]);
+        return record(r.kind, r.payload, r.children[0], r.children[1].children[0], ...r.children.slice(2));
+      });
+      return map(bare, (r) => (r.kind === 9 && keys.has(r.payload) ? copy(keys.get(r.payload)) : r));
+    },
+  },
+
+  // 10: the compiler gives a nameless decorated class a name.
+  'default-name': {
+    ours: (module) => {
+      let fresh = module.children[0].payload;
+      return inLists(module, (statements) => {
+        const made = statements.slice();
+        for (const { at, let: l } of decoratedClasses(statements)) {
+          if (!(l.class.payload & 1)) {
+            const [first, ...rest] = l.class.children;
+            made[at] = letStatement(l.symbol, l.alias, record(26, l.class.payload + 1, first, record(27, fresh), ...rest));
+            fresh += 1;
+          }
+        }
+        return made;
+      });
+    },
+  },
+
+  // 11: the compiler drops the decorators of members with private names.
+  'private-name': {
+    read: (module) => inStatements(module, (c) => withElements(c, bodyOf(c).children.map((e) => (
+      e.kind !== 33 && e.children[1].kind === 35 ? stripped(e) : e)))),
+  },
+
+  // 12: decorators that stay in place: JavaScript has none, and the compiler drops them.
+  'left-decorators': {
+    ours: (module) => map(module, (r) => (r.kind === 28 ? record(28, 0) : r)),
+  },
+
+  // 13: the compiler looks for private-in tests in members' decorators only.
+  'private-in-class': {
+    ours: innerIsClass,
+    theirs: (module) => inLists(module, (statements) => {
+      const made = statements.slice();
+      for (const k of [...decoratedClasses(statements)].reverse()) {
+        if (contains(k.assignment.call, (r) => r.kind === 19)) {
+          const calls = statements.slice(k.at + 1, k.end);
+          const elements = bodyOf(k.let.class).children;
+          keepStatement(made, k, withElements(k.let.class, [...elements, record(33, calls.length, ...calls)]));
+        }
+      }
+      return made;
+    }),
+  },
+
+  // 14: the compiler drops what a constructor is decorated with; the program refuses it (6).
+  'decorated-constructor': {
+    read: (module) => map(module, (r) => (isConstructor(r) ? stripped(r, { own: true }) : r)),
+  },
+};
+
+// The decorated class at `k` of a list becomes a class statement again, without its calls and assignment; its export goes with it. The symbol inside the
+// class is the class's again.
+function keepStatement(statements, k, c) {
+  const behind = statements[k.end + 1];
+  const isExport = behind && (behind.kind === 6 || behind.kind === 7) && behind.payload === k.let.symbol;
+  const inner = k.let.class.payload & 1 ? k.let.class.children[1].payload : null;
+  const way = isExport ? behind.kind - 5 : 0;
+  const kept = record(4, way, inner === null ? c : rename(c, inner, k.let.symbol));
+  statements.splice(k.at, k.end - k.at + (isExport ? 2 : 1), kept);
+}
+
+// Rule 9 leaves a decorated class its statement with an inner symbol as id, while calls and uses name the class's own: the two are made one.
+function innerIsClass(module, { innerOf }) {
+  let made = module;
+  for (const [inner, symbol] of innerOf) {
+    if (contains(module, (r) => r.kind === 4 && r.children[0].payload & 1 && r.children[0].children[1].payload === inner)) made = rename(made, inner, symbol);
+  }
+  return made;
+}
+
+// The getter and the setter that an accessor belongs to, and the first of them that has decorators of its own.
+function accessorPair(elements, e) {
+  const accessor = SORT.getter + SORT.setter;
+  if (e.kind !== 30 || !(sortOf(e) & accessor)) return null;
+  const text = (k) => ([10, 11, 34].includes(k.kind) ? `${k.kind === 11 ? 11 : 10}:${k.payload}` : null);
+  const same = elements.filter((x) => x === e || (x.kind === 30 && sortOf(x) & accessor && (x.payload & 1) === (e.payload & 1)
+    && text(x.children[1]) !== null && text(x.children[1]) === text(e.children[1])));
+  return { decorated: same.find((x) => x.children[0].payload > 0) || null, setter: same.find((x) => sortOf(x) & SORT.setter) || null };
+}
+
+module.exports = { KINDS, erase, renumber, isMemberCall };
