@@ -8,7 +8,7 @@ const { spawnSync } = require('child_process');
 const { program, emit, messages, read, Tables, Refused } = require('./read.js');
 const { print, classesInOrder } = require('./print.js');
 const { build, flatten, show, parse, copy } = require('./words.js');
-const { KINDS, erase, renumber } = require('./normalize.js');
+const { KINDS, erase, renumber, captured } = require('./normalize.js');
 const { damages } = require('./damage.js');
 
 const root = path.join(__dirname, '..', '..');
@@ -122,12 +122,12 @@ function compareRecords(s) {
   return kinds.join(', ') || 'same';
 }
 
-// What the back end printed, read again, is what the program wrote.
+// What the back end printed, read again, is what the program wrote, but for what has no JavaScript and for equal spellings of two symbols.
 function compareRoundTrip(s) {
   const left = KINDS['left-decorators'].ours;
   const context = { innerOf: innerSymbols(s.script.module, s.report) };
   const unify = KINDS['lost-assignment'].ours;
-  const wrote = lineOf(renumber(left(unify(erase(build(s.answer.words)), context))));
+  const wrote = lineOf(renumber(captured(left(unify(erase(build(s.answer.words)), context)))));
   const again = lineOf(renumber(erase(readOutput(s, s.printed))));
   if (wrote !== again) problem(s.name, `printed and read again, the records are others\n  written ${wrote}\n  read    ${again}`);
 }

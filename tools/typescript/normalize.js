@@ -87,6 +87,12 @@ function assignmentOf(s) {
   return { symbol: outer.payload, alias: value.kind === 18 ? value.payload : null, call };
 }
 
+// The class that a statement declares, or null.
+function classAt(s) {
+  const l = s ? letOf(s) : null;
+  return l ? l.class : s && s.kind === 4 ? s.children[0] : null;
+}
+
 const letStatement = (symbol, alias, c) => {
   const value = record(20, 0, c);
   return record(5, symbol, alias === null ? value : record(18, alias, value));
@@ -320,6 +326,17 @@ const KINDS = {
     }),
   },
 
+  // 15: a literal key under a type assertion: the compiler names a variable that it neither declares nor assigns.
+  'asserted-key': {
+    theirs: (module) => inLists(module, (statements) => statements.map((s, i) => {
+      const l = isMemberCall(s) && callOf(s).name.kind === 9 ? classAt(statements[i - 1]) : null;
+      if (!l || contains(module, (r) => r.kind === 18 && r.payload === callOf(s).name.payload)) return s;
+      const key = bodyOf(l).children[0].children[1];
+      const [array, prefix, , descriptor] = s.children[0].children;
+      return record(2, 0, record(22, 4, array, prefix, copy(key), descriptor));
+    })),
+  },
+
   // 14: the compiler drops what a constructor is decorated with; the program refuses it (6).
   'decorated-constructor': {
     read: (module) => map(module, (r) => (isConstructor(r) ? stripped(r, { own: true }) : r)),
@@ -346,6 +363,17 @@ function innerIsClass(module, { innerOf }) {
   return made;
 }
 
+// An inner symbol is spelled like its class, as in the Rust, so that in JavaScript it captures the class's name in the class's heritage.
+function captured(module) {
+  return inLists(module, (statements) => statements.map((s) => {
+    const l = letOf(s);
+    if (!l || !(l.class.payload & 1)) return s;
+    const inner = l.class.children[1].payload;
+    const heritage = l.class.children.slice(0, -1).map((r) => rename(r, l.symbol, inner));
+    return letStatement(l.symbol, l.alias, record(26, l.class.payload, ...heritage, bodyOf(l.class)));
+  }));
+}
+
 // The getter and the setter that an accessor belongs to, and the first of them that has decorators of its own.
 function accessorPair(elements, e) {
   const accessor = SORT.getter + SORT.setter;
@@ -356,4 +384,4 @@ function accessorPair(elements, e) {
   return { decorated: same.find((x) => x.children[0].payload > 0) || null, setter: same.find((x) => sortOf(x) & SORT.setter) || null };
 }
 
-module.exports = { KINDS, erase, renumber, isMemberCall };
+module.exports = { KINDS, erase, renumber, captured };

@@ -78,7 +78,7 @@ function print(words, { read, spellings, tables, report }) {
   const name = (n) => tables.names[n];
   const text = (n) => JSON.stringify(name(n));
   const indent = (s) => s.replace(/^(?=.)/gm, '    ');
-  const list = (rs) => rs.map(expression).join(', ');
+  const list = (rs) => rs.map(argument).join(', ');
 
   function body(r, rs = r.children) {
     const own = vars.has(r) ? [`var ${vars.get(r).map(symbol).join(', ')};`] : [];
@@ -92,7 +92,7 @@ function print(words, { read, spellings, tables, report }) {
       case 2: return expressionStatement(c[0]);
       case 3: return braces(body(r));
       case 4: return (c[0].payload & 2) ? '' : ['', 'export ', 'export default '][r.payload] + classOf(c[0]);
-      case 5: return `let ${symbol(r.payload)} = ${expression(c[0])};`;
+      case 5: return `let ${symbol(r.payload)} = ${argument(c[0])};`;
       case 6: return `export { ${symbol(r.payload)} };`;
       case 7: return `export default ${symbol(r.payload)};`;
       default: throw new Error(`no statement: ${r.kind}:${r.payload}`);
@@ -102,12 +102,12 @@ function print(words, { read, spellings, tables, report }) {
   function expressionStatement(e) {
     const c = e.children;
     switch (e.kind === 25 ? nameOf(e.payload >> 8) : '') {
-      case 'return': return c.length ? `return ${expression(c[0])};` : 'return;';
-      case 'throw': return `throw ${expression(c[0])};`;
-      case 'if': return `if (${expression(c[0])}) ${braces(body(c[1].children[1]))}${c[2] ? ` else ${braces(body(c[2].children[1]))}` : ''}`;
-      case 'function declaration': return functionOf(c[1], symbol(c[0].payload), false);
+      case 'return': return c.length ? `return ${bare(c[0])};` : 'return;';
+      case 'throw': return `throw ${bare(c[0])};`;
+      case 'if': return `if (${bare(c[0])}) ${braces(body(c[1].children[1]))}${c[2] ? ` else ${braces(body(c[2].children[1]))}` : ''}`;
+      case 'function declaration': return functionOf(c[1], symbol(c[0].payload));
       default: {
-        const s = expression(e);
+        const s = bare(e);
         return /^(\{|function|async function|class|let\b)/.test(s) ? `(${s});` : `${s};`;
       }
     }
@@ -121,7 +121,7 @@ function print(words, { read, spellings, tables, report }) {
     return `class${id}${heritage} ${braces(elements.join('\n'))}`;
   }
 
-  const key = (r) => (r.kind === 34 ? name(r.payload) : r.kind === 35 ? `#${name(r.payload)}` : `[${expression(r)}]`);
+  const key = (r) => (r.kind === 34 ? name(r.payload) : r.kind === 35 ? `#${name(r.payload)}` : `[${argument(r)}]`);
 
   // A method without code and an abstract accessor are types: they print as nothing.
   function element(r) {
@@ -129,7 +129,7 @@ function print(words, { read, spellings, tables, report }) {
     const isStatic = r.payload & 1 && r.kind !== 33 ? 'static ' : '';
     switch (r.kind) {
       case 30: return r.payload & 4 ? isStatic + method(c[2], c[3], r.payload & 2 ? 'constructor' : key(c[1])) : '';
-      case 31: return `${isStatic}${key(c[1])}${r.payload & 2 ? ` = ${expression(c[2])}` : ''};`;
+      case 31: return `${isStatic}${key(c[1])}${r.payload & 2 ? ` = ${argument(c[2])}` : ''};`;
       case 32: return '';
       case 33: return `static ${braces(body(r))}`;
       default: throw new Error(`no element: ${r.kind}:${r.payload}`);
@@ -148,7 +148,7 @@ function print(words, { read, spellings, tables, report }) {
     const last = h.parameters.length - 1;
     return `(${parameters.children.map((p, i) => {
       const spread = h.sort & SORT.rest && i === last ? '...' : '';
-      return spread + h.parameters[i] + (p.payload & 1 ? ` = ${expression(p.children[1])}` : '');
+      return spread + h.parameters[i] + (p.payload & 1 ? ` = ${argument(p.children[1])}` : '');
     }).join(', ')})`;
   }
 
@@ -158,17 +158,22 @@ function print(words, { read, spellings, tables, report }) {
     return words.filter(([bit]) => h.sort & bit).map(([, w]) => w).join('') + k + signature(parameters, h) + ' ' + braces(body(code, h.rest));
   }
 
-  function functionOf(r, id, enclosed = true) {
+  function functionOf(r, id) {
     const [parameters, code] = r.children;
     const h = headingOf(code);
     const asynchronous = h.sort & SORT.async ? 'async ' : '';
-    const s = h.sort & SORT.arrow
-      ? `${asynchronous}${signature(parameters, h)} => ${braces(body(code, h.rest))}`
-      : `${asynchronous}function${h.sort & SORT.generator ? '*' : ''}${id ? ` ${id}` : ''}${signature(parameters, h)} ${braces(body(code, h.rest))}`;
-    return enclosed ? `(${s})` : s;
+    if (h.sort & SORT.arrow) return `${asynchronous}${signature(parameters, h)} => ${braces(body(code, h.rest))}`;
+    return `${asynchronous}function${h.sort & SORT.generator ? '*' : ''}${id ? ` ${id}` : ''}${signature(parameters, h)} ${braces(body(code, h.rest))}`;
   }
 
-  function expression(r) {
+  // An expression where any operand may stand, where an argument may, and with no parentheses around it.
+  const TIGHT = ['member', 'element', 'private member', 'spread', 'template', 'property', 'computed property', 'object method'];
+  const isTight = (r) => (r.kind === 25 ? TIGHT.includes(nameOf(r.payload >> 8)) : ![11, 14, 18, 19, 20, 21].includes(r.kind));
+  const expression = (r) => (isTight(r) ? bare(r) : `(${bare(r)})`);
+  const argument = (r) => (r.kind === 25 && nameOf(r.payload >> 8) === 'binary ,' ? expression(r) : bare(r));
+  const operand = (r) => (r.kind === 11 ? bare(r) : expression(r));
+
+  function bare(r) {
     const c = r.children;
     switch (r.kind) {
       case 8: return tables.atoms[r.payload];
@@ -180,21 +185,19 @@ function print(words, { read, spellings, tables, report }) {
       case 14: return 'void 0';
       case 15: return 'this';
       case 16: return `[${list(c)}]`;
-      case 17: return `${head(c[0])}(${list(c.slice(1))})`;
-      case 18: return `(${symbol(r.payload)} = ${expression(c[0])})`;
-      case 19: return `(#${name(r.payload)} in ${expression(c[0])})`;
-      case 20: return `(${classOf(c[0])})`;
+      case 17: return `${expression(c[0])}(${list(c.slice(1))})`;
+      case 18: return `${symbol(r.payload)} = ${argument(c[0])}`;
+      case 19: return `#${name(r.payload)} in ${expression(c[0])}`;
+      case 20: return classOf(c[0]);
       case 21: return functionOf(r);
       case 22: return `__decorate(${list(c)})`;
-      case 23: return `__param(${r.payload}, ${expression(c[0])})`;
-      case 24: return `${head(c[0])}.prototype`;
+      case 23: return `__param(${r.payload}, ${argument(c[0])})`;
+      case 24: return `${expression(c[0])}.prototype`;
       case 25: return otherOf(r);
       default: throw new Error(`no expression: ${r.kind}:${r.payload}`);
     }
   }
 
-  // What a call or a member access stands behind; a number needs parentheses there.
-  const head = (r) => (r.kind === 11 || r.kind === 14 ? `(${expression(r)})` : expression(r));
   const template = (n) => name(n).replace(/[\\`]|\$\{/g, '\\$&');
 
   function otherOf(r) {
@@ -203,24 +206,25 @@ function print(words, { read, spellings, tables, report }) {
     if (form === undefined) throw new Error(`no form ${r.payload >> 8}`);
     const [word, op] = form.split(' ');
     switch (form) {
-      case 'member': return `${head(c[0])}.${name(c[1].payload)}`;
-      case 'element': return `${head(c[0])}[${expression(c[1])}]`;
-      case 'private member': return `${head(c[0])}.#${name(c[1].payload)}`;
-      case 'new': return `(new (${expression(c[0])})(${list(c.slice(1))}))`;
-      case 'conditional': return `(${expression(c[0])} ? ${expression(c[1])} : ${expression(c[2])})`;
-      case 'spread': return `...${expression(c[0])}`;
-      case 'template': return `\`${c.map((x, i) => (i % 2 ? `\${${expression(x)}}` : template(x.payload))).join('')}\``;
-      case 'object': return `({ ${list(c)} })`;
-      case 'property': return `${text(c[0].payload)}: ${expression(c[1])}`;
-      case 'computed property': return `[${expression(c[0])}]: ${expression(c[1])}`;
+      case 'member': return `${expression(c[0])}.${name(c[1].payload)}`;
+      case 'element': return `${expression(c[0])}[${bare(c[1])}]`;
+      case 'private member': return `${expression(c[0])}.#${name(c[1].payload)}`;
+      case 'new': return `new ${c[0].kind === 9 ? bare(c[0]) : `(${bare(c[0])})`}(${list(c.slice(1))})`;
+      case 'conditional': return `${operand(c[0])} ? ${operand(c[1])} : ${operand(c[2])}`;
+      case 'spread': return `...${argument(c[0])}`;
+      case 'template': return `\`${c.map((x, i) => (i % 2 ? `\${${bare(x)}}` : template(x.payload))).join('')}\``;
+      case 'object': return `{ ${list(c)} }`;
+      case 'property': return `${text(c[0].payload)}: ${argument(c[1])}`;
+      case 'computed property': return `[${argument(c[0])}]: ${argument(c[1])}`;
       case 'object method': return method(c[1].children[0], c[1].children[1], text(c[0].payload));
       case 'named function': return functionOf(c[1], symbol(c[0].payload));
-      case 'yield': return c.length ? `(yield ${expression(c[0])})` : '(yield)';
+      case 'yield': return c.length ? `yield ${operand(c[0])}` : 'yield';
       default:
     }
-    if (word === 'binary' || word === 'assign') return `(${expression(c[0])} ${op} ${expression(c[1])})`;
-    if (word === 'prefix') return `(${op} ${expression(c[0])})`;
-    if (word === 'postfix') return `(${expression(c[0])} ${op})`;
+    if (word === 'binary') return `${operand(c[0])} ${op} ${operand(c[1])}`;
+    if (word === 'assign') return `${expression(c[0])} ${op} ${argument(c[1])}`;
+    if (word === 'prefix') return `${op} ${operand(c[0])}`;
+    if (word === 'postfix') return `${operand(c[0])} ${op}`;
     throw new Error(`${form} is no expression`);
   }
 
