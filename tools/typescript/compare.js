@@ -1,6 +1,7 @@
 // Runs every script through both comparisons and prints a table. Exit status 1 if a script comes out otherwise than its first line says, or if an
 // output that was damaged on purpose passes. docs/TYPESCRIPT.md says what is compared.
-// Arguments: --rewriter CMD, the program (default: the project's); --show NAME, a script's words, outputs and logs; --write, the files beside the scripts anew.
+// Arguments: --rewriter CMD, the program (default: the project's); --show NAME, a script's words, outputs and logs; --random N and --seed S, N scripts made at
+// random instead; --write, the files beside the scripts anew.
 'use strict';
 const fs = require('fs');
 const path = require('path');
@@ -10,6 +11,7 @@ const { print, classesInOrder } = require('./print.js');
 const { build, flatten, show, parse, copy } = require('./words.js');
 const { KINDS, erase, renumber, captured } = require('./normalize.js');
 const { damages } = require('./damage.js');
+const random = require('./random.js');
 
 const root = path.join(__dirname, '..', '..');
 const args = process.argv.slice(2);
@@ -23,9 +25,18 @@ const sameList = (x, y) => x.length === y.length && x.every((v, i) => v === y[i]
 
 // The program
 
-// The program's answer: its three numbers and its words.
+const answers = new Map();
+
+// The program's answer: its three numbers and its words. Each module is asked once.
 function rewrite(words, job) {
-  const r = spawnSync(rewriter[0], [...rewriter.slice(1), ...(job ? [job] : [])], { input: `${show(words).join('\n')}\n`, encoding: 'utf8' });
+  const input = `${show(words).join('\n')}\n`;
+  const asked = `${job || ''} ${input}`;
+  if (!answers.has(asked)) answers.set(asked, ask(input, job ? [job] : []));
+  return answers.get(asked);
+}
+
+function ask(input, job) {
+  const r = spawnSync(rewriter[0], [...rewriter.slice(1), ...job], { input, encoding: 'utf8' });
   if (r.error || r.status !== 0) throw new Error(`${rewriter.join(' ')}: ${r.error ? r.error.message : r.stderr}`);
   const [numbers, ...lines] = r.stdout.trim().split('\n');
   const [code, written, fresh] = numbers.split(' ').map(Number);
@@ -52,12 +63,15 @@ function expectations(name, text) {
 // A script read, compiled and rewritten.
 function load(folder, name) {
   const text = fs.readFileSync(path.join(folder, `${name}.ts`), 'utf8');
-  const expected = expectations(name, text);
+  return { ...loadText(name, text), folder, expected: expectations(name, text) };
+}
+
+function loadText(name, text) {
   const prog = program(`${name}.ts`, text, globals);
   const tables = new Tables();
   const script = read(prog, `${name}.ts`, tables, false);
   const output = emit(prog, `${name}.ts`);
-  const s = { folder, name, expected, tables, script, output, errors: messages(prog) };
+  const s = { name, tables, script, output, errors: messages(prog) };
   s.theirs = readOutput(s, output);
   s.answer = rewrite(script.words);
   s.report = rewrite(script.words, 'report');
@@ -91,7 +105,8 @@ function rewritten(s, kinds) {
 function bothSides(s, kinds, words) {
   const { module, answer, report } = rewritten(s, kinds);
   if (answer.code !== 0) return { ours: `refusal ${answer.code}`, theirs: lineOf(renumber(s.theirs)) };
-  const context = { read: module, tables: s.tables, innerOf: innerSymbols(module, report) };
+  const aliases = new Set(report.words.filter(([sort]) => sort === 4).map(([, symbol]) => symbol));
+  const context = { read: module, tables: s.tables, innerOf: innerSymbols(module, report), aliases };
   let ours = erase(build(words || answer.words));
   let theirs = erase(copy(s.theirs));
   for (const k of changesOf(kinds)) {
@@ -250,6 +265,29 @@ function checkDamaged(s, theirs, logs, totals) {
   }
 }
 
+// Scripts made at random: with the changes of all kinds, our records must be the compiler's.
+function checkRandom(from, number) {
+  const outcomes = new Map();
+  const count = (what) => outcomes.set(what, (outcomes.get(what) || 0) + 1);
+  const all = Object.keys(KINDS).filter((k) => k !== 'asserted-key');
+  for (let seed = from; seed < from + number; seed += 1) {
+    const text = random.script(seed);
+    const s = loadText(`random-${seed}`, text);
+    if (s.errors.some((e) => e >= 1000 && e < 1100)) problem(s.name, `not a script: ${s.errors}\n${text}`);
+    if (s.answer.code === 0) compareRoundTrip(s);
+    if (sameRecords(s, [])) count('the same records');
+    else if (sameRecords(s, all)) {
+      count('listed differences');
+      for (const k of all.filter((x) => !sameRecords(s, all.filter((y) => y !== x)))) count(`  ${k}`);
+    } else {
+      const { ours, theirs } = bothSides(s, all);
+      problem(s.name, `a difference in the records that is on no list\n${text}\n  ours     ${ours}\n  compiler ${theirs}`);
+    }
+  }
+  console.log(`scripts made at random, seeds ${from} to ${from + number - 1}`);
+  for (const [what, n] of [...outcomes].sort()) console.log(`${what}: ${n}`);
+}
+
 function main() {
   const folders = [path.join(__dirname, 'scripts'), path.join(root, 'examples')];
   const wanted = argument('--show');
@@ -305,9 +343,16 @@ function main() {
     console.log(`scripts that the front end must refuse: ${checkRefused()}`);
     console.log(`scripts: ${rows.length}; the same records: ${rows.filter((r) => r[1] === 'same').length}; listed differences: ${rows.filter((r) => r[1] !== 'same' && r[1] !== 'UNEXPLAINED').length}`);
   }
+  finish();
+}
+
+function finish() {
   for (const p of problems) console.log(`PROBLEM ${p}`);
   console.log(`${problems.length} problems`);
   process.exitCode = problems.length ? 1 : 0;
 }
 
-main();
+if (args.includes('--random')) {
+  checkRandom(Number(argument('--seed') || 1), Number(argument('--random')));
+  finish();
+} else main();

@@ -2,7 +2,7 @@
 // A kind says exactly what separates the two: it changes the module as read, our records or the compiler's, and afterwards they must be equal.
 'use strict';
 const { record, copy, walk, map } = require('./words.js');
-const { isHeading, HEADING, SORT } = require('./forms.js');
+const { form, isHeading, HEADING, SORT } = require('./forms.js');
 
 const LISTS = new Set([1, 3, 33, 39]);
 const bodyOf = (c) => c.children[c.children.length - 1];
@@ -51,6 +51,8 @@ function sortOf(e) {
 const isMemberCall = (s) => s.kind === 2 && s.children[0].kind === 22 && s.children[0].payload === 4;
 const callOf = (s) => ({ array: s.children[0].children[0], prefix: s.children[0].children[1], name: s.children[0].children[2] });
 
+// The static block that member calls go to beside a private-in test.
+const isCallBlock = (e) => e.kind === 33 && e.children.length > 0 && e.children.every(isMemberCall);
 const sideOf = (s) => (callOf(s).prefix.kind === 24 ? 0 : 1);
 const symbolOf = (s) => (sideOf(s) ? callOf(s).prefix : callOf(s).prefix.children[0]).payload;
 
@@ -85,6 +87,13 @@ function assignmentOf(s) {
   const call = value.kind === 18 ? value.children[0] : value;
   if (call.kind !== 22 || call.payload !== 2) return null;
   return { symbol: outer.payload, alias: value.kind === 18 ? value.payload : null, call };
+}
+
+// The symbol that a static block assigns `this` to, and nothing else; or null.
+function aliasOf(e) {
+  if (e.kind !== 33 || e.children.length !== 1 || e.children[0].kind !== 2) return null;
+  const x = e.children[0].children[0];
+  return x.kind === 18 && x.children[0].kind === 15 ? x.payload : null;
 }
 
 // The class that a statement declares, or null.
@@ -137,6 +146,26 @@ function renumber(module) {
 // The kinds of difference, under their names in docs/DIFFERENCES.md. `read` changes the module as read, which is then rewritten; `ours` and `theirs`
 // change the rewritten records and the compiler's. They are applied in this order.
 const KINDS = {
+  // 6: the compiler's alias stands for the class in its heritage and decorators, too, and is made for a use in a type.
+  'alias-outside-body': {
+    theirs: (module) => inLists(module, (statements) => {
+      const made = statements.slice();
+      for (const { at, end, let: l, assignment: k } of decoratedClasses(statements)) {
+        if (l.alias !== null) {
+          const back = (r) => rename(r, l.alias, l.symbol);
+          const elements = bodyOf(l.class).children.map((e) => (isCallBlock(e) ? back(e) : e));
+          const entries = k.call.children[0].children.map((e) => (e.kind === 23 ? e : back(e)));
+          const used = [...elements, ...entries].some((e) => contains(e, names(l.alias)));
+          const c = record(26, l.class.payload, ...l.class.children.slice(0, -1).map(back), record(29, elements.length, ...elements));
+          made[at] = letStatement(l.symbol, used ? l.alias : null, c);
+          for (let i = at + 1; i < end; i += 1) made[i] = back(made[i]);
+          made[end] = assignment(l.symbol, used ? l.alias : null, record(22, 2, record(16, entries.length, ...entries), k.call.children[1]));
+        }
+      }
+      return made;
+    }),
+  },
+
   // 1: the compiler puts the calls of instance members first. Ours must stand in the order of the elements read.
   'member-order': {
     ours: (module, { read }) => inLists(module, (statements) => {
@@ -161,7 +190,7 @@ const KINDS = {
       const made = statements.slice();
       for (const k of [...decoratedClasses(statements)].reverse()) {
         const last = bodyOf(k.let.class).children.at(-1);
-        if (last && last.kind === 33 && last.children.length > 0 && last.children.every(isMemberCall)) keepStatement(made, k, k.let.class);
+        if (last && isCallBlock(last)) keepStatement(made, k, k.let.class);
       }
       return made;
     }),
@@ -176,6 +205,35 @@ const KINDS = {
   'codeless-member': {
     read: (module) => inStatements(module, (c) => withElements(c, bodyOf(c).children.map((e) => (
       e.kind === 30 && !hasCode(e) && !isConstructor(e) ? stripped(e) : e)))),
+  },
+
+  // 9: the compiler copies any literal key, and `this`.
+  'copied-key': {
+    ours: (module, { tables }) => {
+      const keys = new Map();
+      const isCopied = (r) => r.kind === 15 || (r.kind === 8 && /^(true|false|[\d.].*[^n]|\d)$/.test(tables.atoms[r.payload]));
+      const bare = map(module, (r) => {
+        if ((r.kind !== 30 && r.kind !== 31) || r.children[1].kind !== 18 || !isCopied(r.children[1].children[0])) return r;
+        keys.set(r.children[1].payload, r.children[1].children[0]);
+        return record(r.kind, r.payload, r.children[0], r.children[1].children[0], ...r.children.slice(2));
+      });
+      return map(bare, (r) => (r.kind === 9 && keys.has(r.payload) ? copy(keys.get(r.payload)) : r));
+    },
+  },
+
+  // 15: a computed key of a member that has only parameters decorated: the compiler's call names a variable that is neither declared nor assigned.
+  'undeclared-key': {
+    ours: (module) => {
+      const keys = new Set();
+      walk(module, (r) => {
+        if (r.kind !== 2 || !isMemberCall(r) || callOf(r).name.kind !== 9) return;
+        if (callOf(r).array.children.every((e) => e.kind === 23)) keys.add(callOf(r).name.payload);
+      });
+      return map(module, (r) => {
+        if ((r.kind !== 30 && r.kind !== 31) || r.children[1].kind !== 18 || !keys.has(r.children[1].payload)) return r;
+        return record(r.kind, r.payload, r.children[0], r.children[1].children[0], ...r.children.slice(2));
+      });
+    },
   },
 
   // 5: the compiler has one call for a getter and a setter, from the first that is decorated itself, with the setter's parameter.
@@ -195,108 +253,52 @@ const KINDS = {
         if (r.kind !== 29) return;
         for (const e of r.children) {
           const pair = accessorPair(r.children, e);
-          if (pair && pair.decorated === e && pair.setter && pair.setter !== e) pairs.push(e.children[1].payload);
+          const isFirst = pair && r.children.indexOf(pair.decorated) < r.children.indexOf(pair.setter);
+          if (pair && pair.decorated === e && pair.setter && pair.setter !== e) pairs.push({ key: textOf(e.children[1]), isFirst });
         }
       });
-      return inLists(module, (statements) => {
-        const made = statements.slice();
-        for (let i = 0; i < made.length; i += 1) {
-          if (isMemberCall(made[i]) && pairs.includes(callOf(made[i]).name.payload)) {
-            const { prefix, name, array } = callOf(made[i]);
-            const j = made.findIndex((s, k) => k > i && isMemberCall(s) && equal(callOf(s).prefix, prefix) && equal(callOf(s).name, name));
-            if (j > i) {
-              const joined = [...array.children, ...callOf(made[j]).array.children];
-              const parts = made[i].children[0].children.slice(1);
-              made[i] = record(2, 0, record(22, 4, record(16, joined.length, ...joined), ...parts));
-              made.splice(j, 1);
-            }
-          }
-        }
-        return made;
-      });
+      const isSame = (x, y) => textOf(x.name) === textOf(y.name) && equal(x.prefix, y.prefix);
+      const isParameters = (s) => callOf(s).array.children.every((e) => e.kind === 23);
+      return inLists(module, (statements) => statements.flatMap((s, i) => {
+        const pair = isMemberCall(s) && pairs.find((p) => p.key !== null && p.key === textOf(callOf(s).name));
+        const j = statements.findIndex((x, k) => pair && k !== i && isMemberCall(x) && isSame(callOf(x), callOf(s)));
+        if (j < 0 || isParameters(s) !== ((i < j) !== pair.isFirst)) return [s];
+        if (isParameters(s)) return [];
+        const joined = [...callOf(s).array.children, ...callOf(statements[j]).array.children];
+        return [record(2, 0, record(22, 4, record(16, joined.length, ...joined), ...s.children[0].children.slice(1)))];
+      }));
     },
-  },
-
-  // 6: the compiler's alias stands for the class in its heritage and decorators, too, and is made for a use in a type.
-  'alias-outside-body': {
-    theirs: (module) => inLists(module, (statements) => {
-      const made = statements.slice();
-      for (const { at, end, let: l, assignment: k } of decoratedClasses(statements)) {
-        if (l.alias !== null) {
-          const back = (r) => rename(r, l.alias, l.symbol);
-          const used = contains(bodyOf(l.class), names(l.alias));
-          const c = record(26, l.class.payload, ...l.class.children.slice(0, -1).map(back), bodyOf(l.class));
-          made[at] = letStatement(l.symbol, used ? l.alias : null, c);
-          for (let i = at + 1; i < end; i += 1) made[i] = back(made[i]);
-          made[end] = assignment(l.symbol, used ? l.alias : null, back(k.call));
-        }
-      }
-      return made;
-    }),
   },
 
   // 7: the compiler has no block that assigns the alias before static values and blocks.
   'alias-block': {
-    ours: (module) => inLists(module, (statements) => {
-      const made = statements.slice();
-      for (const { at, let: l, assignment: k } of decoratedClasses(statements)) {
-        const first = bodyOf(l.class).children[0];
-        const block = record(33, 1, record(2, 0, record(18, k.alias, record(15, 0))));
-        if (k.alias !== null && l.alias === null && first.children.length === 1 && equal(first, block)) {
-          made[at] = letStatement(l.symbol, k.alias, withElements(l.class, bodyOf(l.class).children.slice(1)));
-        }
-      }
-      return made;
-    }),
+    ours: (module, { aliases }) => inLists(module, (statements) => statements.map((s) => {
+      const c = classAt(s);
+      const alias = c && bodyOf(c).children.length > 0 ? aliasOf(bodyOf(c).children[0]) : null;
+      if (!aliases.has(alias)) return s;
+      const without = withElements(c, bodyOf(c).children.slice(1));
+      return s.kind === 4 ? record(4, s.payload, without) : letStatement(s.payload, alias, without);
+    })),
   },
 
-  // 8: the compiler makes no alias for a class that has only parameters decorated.
+  // 8: the compiler makes no alias for a class that has only parameters decorated: inside the class its name is the class's own.
   'no-alias-for-parameters': {
     ours: (module) => inLists(module, (statements) => {
       const made = statements.slice();
       for (const { at, end, let: l, assignment: k } of decoratedClasses(statements)) {
-        if (k.alias !== null && k.call.children[0].children.every((e) => e.kind === 23)) {
+        if (l.class.payload & 1 && k.call.children[0].children.every((e) => e.kind === 23)) {
           const inner = l.class.children[1].payload;
-          const hasBlock = l.alias === null;
-          const c = rename(l.class, k.alias, inner);
-          made[at] = letStatement(l.symbol, null, hasBlock ? withElements(c, bodyOf(c).children.slice(1)) : c);
-          made[end] = assignment(l.symbol, null, rename(k.call, k.alias, inner));
+          const own = (r) => (k.alias === null ? r : rename(r, k.alias, inner));
+          const elements = bodyOf(l.class).children.map(own);
+          const hasBlock = k.alias !== null && l.alias === null;
+          const heritage = l.class.children.slice(0, -1).map((r) => rename(r, l.symbol, inner));
+          const c = record(26, l.class.payload, ...heritage, record(29, elements.length, ...elements));
+          made[at] = letStatement(l.symbol, null, hasBlock ? withElements(c, elements.slice(1)) : c);
+          made[end] = assignment(l.symbol, null, k.alias === null ? k.call : rename(k.call, k.alias, l.symbol));
         }
       }
       return made;
     }),
-  },
-
-  // 9: the compiler copies any literal key, and `this`.
-  'copied-key': {
-    ours: (module, { tables }) => {
-      const keys = new Map();
-      const isCopied = (r) => r.kind === 15 || (r.kind === 8 && /^(true|false|[\d.].*[^n]|\d)$/.test(tables.atoms[r.payload]));
-      const bare = map(module, (r) => {
-        if ((r.kind !== 30 && r.kind !== 31) || r.children[1].kind !== 18 || !isCopied(r.children[1].children[0])) return r;
-        keys.set(r.children[1].payload, r.children[1].children[0]);
-        return record(r.kind, r.payload, r.children[0], r.children[1].children[0], ...r.children.slice(2));
-      });
-      return map(bare, (r) => (r.kind === 9 && keys.has(r.payload) ? copy(keys.get(r.payload)) : r));
-    },
-  },
-
-  // 10: the compiler gives a nameless decorated class a name.
-  'default-name': {
-    ours: (module) => {
-      let fresh = module.children[0].payload;
-      return inLists(module, (statements) => {
-        const made = statements.slice();
-        for (const { at, let: l } of decoratedClasses(statements)) {
-          if (!(l.class.payload & 1)) {
-            const [first, ...rest] = l.class.children;
-            made[at] = letStatement(l.symbol, l.alias, record(26, l.class.payload + 1, first, record(27, fresh), ...rest));
-            fresh += 1;
-          }
-        }
-        return made;
-      });
-    },
   },
 
   // 11: the compiler drops the decorators of members with private names.
@@ -326,7 +328,42 @@ const KINDS = {
     }),
   },
 
-  // 15: a literal key under a type assertion: the compiler names a variable that it neither declares nor assigns.
+  // 16: the compiler assigns the computed key of a decorated member of a class expression to a variable that nothing reads. In a parameter's default
+  // that variable makes it move the default into the code.
+  'idle-key': {
+    theirs: (module) => {
+      const bare = map(module, (r) => {
+        const key = r.kind === 30 || r.kind === 31 ? r.children[1] : null;
+        if (!key || key.kind !== 18 || contains(module, (x) => x.kind === 9 && x.payload === key.payload)) return r;
+        return record(r.kind, r.payload, r.children[0], key.children[0], ...r.children.slice(2));
+      });
+      return map(bare, defaultsBack);
+    },
+  },
+
+  // 10: the compiler gives a nameless class a name that nothing uses. Where rule 9 leaves a nameless class its statement, its calls have nothing to name.
+  'default-name': {
+    ours: (module) => inLists(module, (statements) => statements.map((s) => {
+      const c = s.kind === 4 && !(s.children[0].payload & 1) ? s.children[0] : null;
+      const last = c && bodyOf(c).children.at(-1);
+      if (!last || !isCallBlock(last)) return s;
+      return record(4, s.payload, record(26, c.payload + 1, c.children[0], record(27, symbolOf(last.children[0])), ...c.children.slice(1)));
+    })),
+    theirs: (module, { read }) => {
+      const isNameless = contains(read, (r) => r.kind === 4 && !(r.children[0].payload & 1));
+      return inLists(module, (statements) => statements.map((s) => {
+        const c = classAt(s);
+        const isDefault = s.kind === 4 ? s.payload === 2 : statements.some((x) => x.kind === 7 && x.payload === s.payload);
+        if (!isNameless || !c || !isDefault || !(c.payload & 1)) return s;
+        const id = c.children[1].payload;
+        if (contains(module, (r) => r.kind !== 27 && names(id)(r))) return s;
+        const without = record(26, c.payload - 1, c.children[0], ...c.children.slice(2));
+        return s.kind === 4 ? record(4, 2, without) : letStatement(s.payload, letOf(s).alias, without);
+      }));
+    },
+  },
+
+  // 15: the same for a literal key under a type assertion, which the words don't have.
   'asserted-key': {
     theirs: (module) => inLists(module, (statements) => statements.map((s, i) => {
       const l = isMemberCall(s) && callOf(s).name.kind === 9 ? classAt(statements[i - 1]) : null;
@@ -354,6 +391,33 @@ function keepStatement(statements, k, c) {
   statements.splice(k.at, k.end - k.at + (isExport ? 2 : 1), kept);
 }
 
+// The statement `if (p === void 0) { p = value }`: { symbol, value }, or null.
+function movedDefault(s) {
+  const x = s && s.kind === 2 ? s.children[0] : null;
+  if (!x || x.kind !== 25 || x.payload !== 256 * form('if') + 2) return null;
+  const [test, branch] = x.children;
+  const set = branch.children[1].children[0];
+  const isTest = test.kind === 25 && test.payload === 256 * form('binary ===') + 2 && test.children[0].kind === 9 && test.children[1].kind === 14;
+  if (!isTest || !set || set.kind !== 2 || set.children[0].kind !== 18 || set.children[0].payload !== test.children[0].payload) return null;
+  return { symbol: set.children[0].payload, value: set.children[0].children[0] };
+}
+
+// A function or method whose parameters have the defaults again that were moved into its code.
+function defaultsBack(r) {
+  const at = r.children.findIndex((x) => x.kind === 39);
+  if ((r.kind !== 30 && r.kind !== 21) || at < 0) return r;
+  const [heading, ...statements] = r.children[at].children;
+  const symbols = heading ? heading.children[0].children.map((x) => x.payload) : [];
+  const parameters = [...r.children[at - 1].children];
+  for (let moved = movedDefault(statements[0]); moved && symbols.includes(moved.symbol); moved = movedDefault(statements[0])) {
+    const i = symbols.indexOf(moved.symbol);
+    parameters[i] = record(37, 1, parameters[i].children[0], moved.value);
+    statements.shift();
+  }
+  const code = heading ? [heading, ...statements] : [];
+  return record(r.kind, r.payload, ...r.children.slice(0, at - 1), record(36, parameters.length, ...parameters), record(39, code.length, ...code));
+}
+
 // Rule 9 leaves a decorated class its statement with an inner symbol as id, while calls and uses name the class's own: the two are made one.
 function innerIsClass(module, { innerOf }) {
   let made = module;
@@ -374,13 +438,19 @@ function captured(module) {
   }));
 }
 
+// What a key, or a call's name, is for the compiler when it looks for pairs of accessors; null for a computed one.
+function textOf(k) {
+  if (k.kind === 8) return `8:${k.payload}`;
+  if (k.kind === 11) return `11:${k.payload}`;
+  return [10, 12, 34].includes(k.kind) ? `10:${k.payload}` : null;
+}
+
 // The getter and the setter that an accessor belongs to, and the first of them that has decorators of its own.
 function accessorPair(elements, e) {
   const accessor = SORT.getter + SORT.setter;
   if (e.kind !== 30 || !(sortOf(e) & accessor)) return null;
-  const text = (k) => ([10, 11, 34].includes(k.kind) ? `${k.kind === 11 ? 11 : 10}:${k.payload}` : null);
   const same = elements.filter((x) => x === e || (x.kind === 30 && sortOf(x) & accessor && (x.payload & 1) === (e.payload & 1)
-    && text(x.children[1]) !== null && text(x.children[1]) === text(e.children[1])));
+    && textOf(x.children[1]) !== null && textOf(x.children[1]) === textOf(e.children[1])));
   return { decorated: same.find((x) => x.children[0].payload > 0) || null, setter: same.find((x) => sortOf(x) & SORT.setter) || null };
 }
 
