@@ -1,7 +1,7 @@
 // Runs every script through both comparisons and prints a table. Exit status 1 if a script comes out otherwise than its first line says, or if an
 // output that was damaged on purpose passes. docs/TYPESCRIPT.md says what is compared.
-// Arguments: --rewriter CMD, the program (default: the project's); --show NAME, a script's words, outputs and logs; --random N and --seed S, N scripts made at
-// random instead; --write, the files beside the scripts anew.
+// Arguments: --rewriter CMD, the program (default: the project's); --show NAME, a script's words, outputs and logs; --random N and --seed S, only N
+// scripts made at random; --write, the files beside the scripts anew.
 'use strict';
 const fs = require('fs');
 const path = require('path');
@@ -37,7 +37,8 @@ function rewrite(words, job) {
 
 function ask(input, job) {
   const r = spawnSync(rewriter[0], [...rewriter.slice(1), ...job], { input, encoding: 'utf8' });
-  if (r.error || r.status !== 0) throw new Error(`${rewriter.join(' ')}: ${r.error ? r.error.message : r.stderr}`);
+  if (r.error) throw new Error(`the program can't be run (rt check gingerpost builds it): ${r.error.message}`);
+  if (r.status !== 0) throw new Error(`${rewriter.join(' ')}: ${r.stderr}`);
   const [numbers, ...lines] = r.stdout.trim().split('\n');
   const [code, written, fresh] = numbers.split(' ').map(Number);
   const answer = parse(lines.join('\n'));
@@ -180,11 +181,15 @@ function outcome(theirs, ours) {
 
 const pinned = (s) => path.join(s.folder, `${s.name}.behaviour`);
 
-// Whether the logs come out as the script says: 'differs' has its lines in a file.
+// Whether the logs come out as the script says. 'differs' has its lines in a file; all others must stand in the same order, unless one of the script's
+// kinds changes the order.
 function asExpected(s, theirs, ours) {
   if (outcome(theirs, ours) !== s.expected.behaviour) return false;
   if (s.expected.behaviour !== 'differs') return true;
-  return fs.existsSync(pinned(s)) && fs.readFileSync(pinned(s), 'utf8').trim() === difference(theirs.lines, ours.lines).join('\n');
+  const lines = difference(theirs.lines, ours.lines);
+  const others = (list) => list.filter((l) => !lines.some((d) => d.replace(/^[-+]+ /, '') === l));
+  const inOrder = s.expected.kinds.some((k) => KINDS[k].reorders) || sameList(others(theirs.lines), others(ours.lines));
+  return inOrder && fs.existsSync(pinned(s)) && fs.readFileSync(pinned(s), 'utf8').trim() === lines.join('\n');
 }
 
 function compareBehaviour(s, theirs, ours) {
@@ -284,7 +289,7 @@ function checkRandom(from, number) {
       problem(s.name, `a difference in the records that is on no list\n${text}\n  ours     ${ours}\n  compiler ${theirs}`);
     }
   }
-  console.log(`scripts made at random, seeds ${from} to ${from + number - 1}`);
+  console.log(`scripts made at random: ${number}, seeds ${from} to ${from + number - 1}`);
   for (const [what, n] of [...outcomes].sort()) console.log(`${what}: ${n}`);
 }
 
@@ -341,7 +346,11 @@ function main() {
       console.log(`damaged on purpose, ${sort}: ${t.records} for the records, ${t.behaviour} for behaviour`);
     }
     console.log(`scripts that the front end must refuse: ${checkRefused()}`);
-    console.log(`scripts: ${rows.length}; the same records: ${rows.filter((r) => r[1] === 'same').length}; listed differences: ${rows.filter((r) => r[1] !== 'same' && r[1] !== 'UNEXPLAINED').length}`);
+    const same = rows.filter((r) => r[1] === 'same').length;
+    const unexplained = rows.filter((r) => r[1] === 'UNEXPLAINED').length;
+    console.log(`scripts: ${rows.length}; the same records: ${same}; listed differences: ${rows.length - same - unexplained}; unexplained: ${unexplained}`);
+    console.log('');
+    checkRandom(1, 50);
   }
   finish();
 }

@@ -144,7 +144,8 @@ function renumber(module) {
 }
 
 // The kinds of difference, under their names in docs/DIFFERENCES.md. `read` changes the module as read, which is then rewritten; `ours` and `theirs`
-// change the rewritten records and the compiler's. They are applied in this order.
+// change the rewritten records and the compiler's; `reorders` says that calls are made in another order. They are applied in the order in which they
+// stand; the numbers are those of docs/DIFFERENCES.md.
 const KINDS = {
   // 6: the compiler's alias stands for the class in its heritage and decorators, too, and is made for a use in a type.
   'alias-outside-body': {
@@ -168,6 +169,7 @@ const KINDS = {
 
   // 1: the compiler puts the calls of instance members first. Ours must stand in the order of the elements read.
   'member-order': {
+    reorders: true,
     ours: (module, { read }) => inLists(module, (statements) => {
       const made = [];
       for (let i = 0; i < statements.length;) {
@@ -238,6 +240,7 @@ const KINDS = {
 
   // 5: the compiler has one call for a getter and a setter, from the first that is decorated itself, with the setter's parameter.
   'joined-accessors': {
+    reorders: true,
     read: (module) => inStatements(module, (c) => {
       const elements = bodyOf(c).children;
       return withElements(c, elements.map((e) => {

@@ -94,7 +94,8 @@ function script(seed) {
     });
     if (g.chance(0.4)) {
       const signature = g.chance(0.3) ? `constructor(${g.chance(0.5) ? '@a ' : ''}x?: any);\n` : '';
-      made.splice(g.below(made.length + 1), 0, `${signature}constructor(${signature ? `${decorators(where, depth, 1)}x?: any` : parameters(where, depth)}) {\n${where.heritage ? 'super();' : ''}\n}`);
+      const list = signature ? `${decorators(where, depth, 1)}x?: any` : parameters(where, depth);
+      made.splice(g.below(made.length + 1), 0, `${signature}constructor(${list}) {\n${where.heritage ? 'super();' : ''}\n}`);
     }
     return made.join('\n');
   }
