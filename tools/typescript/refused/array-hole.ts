@@ -1,0 +1,2 @@
+// refused: 2:13 no record for OmittedExpression
+let list = [, 1];

@@ -1,0 +1,2 @@
+// refused: 2:1 an export from another module
+export * from "rack";

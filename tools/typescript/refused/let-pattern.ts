@@ -1,0 +1,2 @@
+// refused: 2:5 a pattern
+let [x, y] = [1, 2];

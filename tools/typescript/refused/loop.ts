@@ -1,0 +1,4 @@
+// refused: 3:3 no record for ForOfStatement
+function f(list: number[]) {
+  for (const x of list) trace(x);
+}

@@ -1,0 +1,4 @@
+// refused: 2:1 no record for ModuleDeclaration
+namespace Rack {
+  trace(1);
+}

@@ -1,0 +1,2 @@
+// refused: 2:12 an optional chain
+let call = see?.(1);

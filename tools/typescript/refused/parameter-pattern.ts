@@ -1,0 +1,4 @@
+// refused: 3:11 a pattern
+class Voice {
+  play(@a { note }: { note: number }) {}
+}

@@ -1,0 +1,2 @@
+// refused: 2:7 no record for TaggedTemplateExpression
+trace(see`x`);

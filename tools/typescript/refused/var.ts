@@ -1,0 +1,2 @@
+// refused: 2:1 a var statement
+var x = 1;

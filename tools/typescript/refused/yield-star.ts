@@ -1,0 +1,4 @@
+// refused: 3:3 yield*
+function* notes() {
+  yield* [1];
+}

@@ -1,0 +1,4 @@
+// records: alias-outside-body; behaviour: same
+@a class Bank {
+  kind: typeof Bank;
+}

@@ -1,0 +1,8 @@
+// records: same; behaviour: same
+@replace("tuned")
+class Osc {
+  static make() {
+    return new Osc();
+  }
+}
+trace(Osc.make(), Osc);

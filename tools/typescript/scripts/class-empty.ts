@@ -1,0 +1,2 @@
+// records: same; behaviour: same
+@a class Empty {}

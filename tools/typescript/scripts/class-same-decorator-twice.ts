@@ -1,0 +1,4 @@
+// records: same; behaviour: same
+@a @a class Twice {
+  @b @b m() {}
+}

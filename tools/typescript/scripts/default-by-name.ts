@@ -1,0 +1,3 @@
+// records: same; behaviour: same
+@replace("kept") class Voice {}
+export default Voice;

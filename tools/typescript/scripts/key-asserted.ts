@@ -1,0 +1,4 @@
+// records: asserted-key; behaviour: differs
+class Keys {
+  @a ["text" as any]() {}
+}

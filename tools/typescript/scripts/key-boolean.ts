@@ -1,0 +1,4 @@
+// records: copied-key; behaviour: same; errors: 2464
+class Keys {
+  @a [true]() {}
+}

@@ -1,0 +1,4 @@
+// records: same; behaviour: same; errors: 2464
+class Keys {
+  @a [null]() {}
+}

@@ -1,0 +1,4 @@
+// records: undeclared-key; behaviour: differs
+class Keys {
+  [see("k")](@a x: number) {}
+}

@@ -1,0 +1,5 @@
+// records: member-order; behaviour: order
+class C {
+  @a static s() {}
+  @b i() {}
+}
