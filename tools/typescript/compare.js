@@ -37,7 +37,10 @@ function rewrite(words, job) {
 
 function ask(input, job) {
   const r = spawnSync(rewriter[0], [...rewriter.slice(1), ...job], { input, encoding: 'utf8' });
-  if (r.error) throw new Error(`the program can't be run (rt check gingerpost builds it): ${r.error.message}`);
+  if (r.error) {
+    console.error(`the program can't be run: ${r.error.message}; 'rt check gingerpost' builds it`);
+    process.exit(2);
+  }
   if (r.status !== 0) throw new Error(`${rewriter.join(' ')}: ${r.stderr}`);
   const [numbers, ...lines] = r.stdout.trim().split('\n');
   const [code, written, fresh] = numbers.split(' ').map(Number);
