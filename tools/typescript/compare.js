@@ -37,7 +37,10 @@ function rewrite(words, job) {
 
 function ask(input, job) {
   const r = spawnSync(rewriter[0], [...rewriter.slice(1), ...job], { input, encoding: 'utf8' });
-  if (r.error) throw new Error(`the program can't be run (rt check gingerpost builds it): ${r.error.message}`);
+  if (r.error) {
+    console.error(`the program can't be run: ${r.error.message}; 'rt check gingerpost' builds it`);
+    process.exit(2);
+  }
   if (r.status !== 0) throw new Error(`${rewriter.join(' ')}: ${r.stderr}`);
   const [numbers, ...lines] = r.stdout.trim().split('\n');
   const [code, written, fresh] = numbers.split(' ').map(Number);
@@ -203,11 +206,12 @@ function compareBehaviour(s, theirs, ours) {
 
 // The examples
 
-// An example's words, rewritten words and JavaScript stand beside it.
+// An example's words, their spellings, the rewritten words and the JavaScript stand beside it.
 function compareFiles(s) {
   const numbers = `${s.answer.code} ${s.answer.words.length} ${s.answer.fresh}`;
   const files = {
     words: show(s.script.words),
+    names: [...s.script.spellings.map((x, i) => `s${i} ${x}`), ...s.tables.names.map((x, i) => `n${i} ${x}`).slice(1)],
     rewritten: [numbers, ...show(s.answer.words)],
     js: s.printed.trimEnd().split('\n'),
   };
@@ -221,6 +225,8 @@ function compareFiles(s) {
 
 // All of it
 
+// An example whose first line doesn't say what comes out is not the front end's; it is left alone.
+const saysOutcome = (folder, name) => fs.readFileSync(path.join(folder, `${name}.ts`), 'utf8').startsWith('// records:');
 const scriptsIn = (folder) => (fs.existsSync(folder) ? fs.readdirSync(folder) : []).filter((f) => /(?<!\.d)\.ts$/.test(f)).map((f) => f.slice(0, -3)).sort();
 
 function showScript(s, theirs, ours) {
@@ -294,11 +300,11 @@ function checkRandom(from, number) {
 }
 
 function main() {
-  const folders = [path.join(__dirname, 'scripts'), path.join(root, 'examples')];
+  const examples = path.join(root, 'examples');
   const wanted = argument('--show');
   const scripts = [];
-  for (const folder of folders) {
-    for (const name of scriptsIn(folder).filter((n) => !wanted || n === wanted)) {
+  for (const folder of [path.join(__dirname, 'scripts'), examples]) {
+    for (const name of scriptsIn(folder).filter((n) => (!wanted || n === wanted) && (folder !== examples || saysOutcome(folder, n)))) {
       try {
         scripts.push(load(folder, name));
       } catch (e) {
@@ -331,7 +337,7 @@ function main() {
       compareRoundTrip(s);
       behaviour = compareBehaviour(s, theirs, ours);
       checkDamaged(s, theirs, logs, totals);
-      if (s.folder.endsWith('examples')) compareFiles(s);
+      if (s.folder === examples) compareFiles(s);
     } else if (s.expected.behaviour !== 'none') problem(s.name, 'there is no output to run');
     const number = ours ? ours.registrations.length : 0;
     rows.push([s.name, records, behaviour, String(ours ? ours.lines.length : 0), String(number), s.answer.code ? `refusal ${s.answer.code}` : '']);

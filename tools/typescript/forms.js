@@ -49,4 +49,4 @@ function form(name) {
 const nameOf = (n) => NAMES[n - 1];
 const isHeading = (n) => n >= HEADING && n < HEADING + 64;
 
-module.exports = { form, nameOf, isHeading, HEADING, SORT, BINARY, ASSIGNING, PREFIX, POSTFIX };
+module.exports = { form, nameOf, isHeading, HEADING, SORT, BINARY, ASSIGNING };

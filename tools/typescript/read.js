@@ -83,7 +83,7 @@ function messages(prog) {
 }
 
 // The script's words. `compiled` says that the text is the compiler's output: its 'var' lines are left out.
-// Answers the words, the spelling of each symbol, and where each symbol is declared, for messages.
+// Answers the module's records, its words and the spelling of each symbol.
 function read(prog, fileName, tables, compiled) {
   const checker = prog.getTypeChecker();
   const file = prog.getSourceFile(fileName);
