@@ -311,7 +311,7 @@ struct Measured {
 fn slowest_first() -> Vec<Measured> {
     let mut all: Vec<Measured> = shapes()
         .map(|shape| {
-            let [ours, rust, _] = measured(&Input::one("", &shape.module(MOST_WORDS)), 3);
+            let [ours, rust, _] = measured(&Input::one("", &shape.module(MOST_WORDS)), 8);
             Measured { shape, ours, rust }
         })
         .collect();
