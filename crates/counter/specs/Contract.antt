@@ -1,9 +1,10 @@
 -- The contracts of the walkers that count fresh symbols: what they ask of the words, and what they answer. Definitions only.
 use mathlib.Core.Path.{_≡_}
-use mathlib.Core.Bool.{Bool, true}
+use mathlib.Core.Bool.{Bool, true, false, not, cond}
+use mathlib.Core.Logic.{_⊎_}
 use mathlib.Core.Option.{Option, none, some}
 use mathlib.Core.List.{List, [], _∷_}
-use Prim.Native.Nat.{ℕ, _+_, _-_, _*_, _<_, _≤_}
+use Prim.Native.Nat.{ℕ, _+_, _-_, _*_, _/_, _%_, _<_, _≤_}
 use lib.Dec.{eqb}
 use lib.ListN.{length, getD}
 use Rattle.records.specs.Forest.{takeF}
@@ -18,6 +19,7 @@ use Rattle.walk_laws.specs.Rows.{visitAt, fresh}
 use Rattle.walk_laws.specs.After.{mentioned}
 use Rattle.counter.specs.declared.Scope.{Scope}
 use Rattle.counter.specs.declared.Counted.{Counted}
+use Rattle.counter.specs.declared.Total.{Total}
 
 unfoldable pub aroundOf : Scope → Around
 aroundOf a = record { live = a .live; id = optOf (a .id) }
@@ -34,18 +36,22 @@ Below n (some c) = c < n
 unfoldable pub elementsFrom : List ℕ → ℕ → ℕ → Trees
 elementsFrom ws at n = elementsOf (classKids (visitAt ws (at + 1) 1 (record { live = true; id = idOf (kidsAt ws (at + 1)) }) (fresh n) .here))
 
--- 1 stands at the place of a class statement exactly when rule 6's search finds its symbol, whatever the counter in front of it
-pub record Planned (ws aliases : List ℕ) : Type 0 where
-  pub long : length ws ≤ length aliases
+-- a note is a number of a word's size: in its lowest bit whether the class of the statement takes an alias, then 14 bits for a count, then a place
+abbrev pub aliasIn : ℕ → Bool
+aliasIn w = eqb (w % 2) 1
+
+-- the note of a class statement says that its class takes an alias exactly when rule 6's search finds its symbol, whatever the counter in front of it
+pub record Planned (ws notes : List ℕ) : Type 0 where
+  pub long : length ws ≤ length notes
   pub right : (at n : ℕ) → at < length ws → labelAt ws at .kind ≡ 4 → isLive (takeF 1 (recordsAt ws (at + 1))) ≡ true → isDecorated (kidsAt ws (at + 1)) ≡ true →
-      Below n (idOf (kidsAt ws (at + 1))) → eqb (getD aliases at 0) 1 ≡ mentioned (idOf (kidsAt ws (at + 1))) (elementsFrom ws at n)
+      Below n (idOf (kidsAt ws (at + 1))) → aliasIn (getD notes at 0) ≡ mentioned (idOf (kidsAt ws (at + 1))) (elementsFrom ws at n)
 
 -- what a walker at the place `at` with the counter n asks: an accepted module, and room for the symbols to come
-pub record Ready (ws aliases : List ℕ) (at n : ℕ) : Type 0 where
+pub record Ready (ws notes : List ℕ) (at n : ℕ) : Type 0 where
   pub few : length ws ≤ 4096
   pub inside : at ≤ length ws
   pub whole : Fits (module′ ∷ []) (recordsAt ws 0)
-  pub planned : Planned ws aliases
+  pub planned : Planned ws notes
   pub ids : (i : ℕ) → labelAt ws i .kind ≡ 26 → Below n (idOf (kidsAt ws i))
   pub room : n + 2 * (length ws - at) < 67108864
 
@@ -53,3 +59,63 @@ pub record Ready (ws aliases : List ℕ) (at n : ℕ) : Type 0 where
 pub record Counts (ws : List ℕ) (at k : ℕ) (a : Scope) (n d : ℕ) (r : Counted) : Type 0 where
   pub place : r .at ≡ endOf ws at k
   pub state : visitAt ws at k (aroundOf a) (stateOf n d) .after ≡ stateOf (r .next) (r .default)
+
+-- ---- counts that hold for every state in front
+
+-- a counter n in front of `at` that no id has reached, with room for the symbols to come
+pub record Free (ws : List ℕ) (at n : ℕ) : Type 0 where
+  pub ids : (i : ℕ) → labelAt ws i .kind ≡ 26 → Below n (idOf (kidsAt ws i))
+  pub room : n + 2 * (length ws - at) < 67108864
+
+-- the note w of the record at i says where it ends, and how many fresh symbols it takes where no class around is live
+pub record Noted (ws : List ℕ) (i w : ℕ) : Type 0 where
+  pub place : w / 32768 ≡ endOf ws i 1
+  pub count : (a : Scope) (n d : ℕ) → a .live ≡ false → Free ws i n → Counts ws i 1 a n d (record { at = w / 32768; next = n + w / 2 % 16384; default = d })
+
+-- so do the notes of all places from `at` on
+unfoldable pub Annotated : List ℕ → List ℕ → ℕ → Type 0
+Annotated ws notes at = (i : ℕ) → at ≤ i → i < length ws → Noted ws i (getD notes i 0)
+
+-- what a walker asks that counts for every state in front
+pub record Walks (ws notes : List ℕ) (at : ℕ) : Type 0 where
+  pub known : ℕ
+  pub ready : Ready ws notes at known
+  pub noted : Annotated ws notes at
+
+unfoldable pub hasDefault : ℕ → Bool
+hasDefault d = not (eqb d 67108864)
+
+-- the symbol with the number o behind the counter n, if there is one, is a symbol
+unfoldable pub Near : ℕ → ℕ → Type 0
+Near o n = (o ≡ 67108864) ⊎ (n + o < 67108864)
+
+-- the default symbol behind records that take the symbol n + o for it, or none
+unfoldable pub defaultFrom : ℕ → ℕ → ℕ → ℕ
+defaultFrom o n d = cond (eqb o 67108864) d (n + o)
+
+-- from any state in front, in a class like a, the k records at `at` end at q and take c symbols, the one with the number o for the default symbol
+abbrev pub FromAny : List ℕ → ℕ → ℕ → Scope → Bool → ℕ → ℕ → ℕ → Type 0
+FromAny ws at k a has q c o =
+    (b : Scope) (n d : ℕ) → Free ws at n → b .live ≡ a .live → (a .live ≡ true → (b ≡ a) × (hasDefault d ≡ has)) →
+    Counts ws at k b n d (record { at = q; next = n + c; default = defaultFrom o n d })
+
+-- what it answers for the k records at `at` in the class a; has: whether that has its default symbol in front of them
+pub record Totals (ws : List ℕ) (at k : ℕ) (a : Scope) (has : Bool) (r : Total) : Type 0 where
+  pub place : r .at ≡ endOf ws at k
+  pub low : (r .default ≡ 67108864) ⊎ (r .default < r .count)
+  pub dead : a .live ≡ false → r .default ≡ 67108864
+  pub few : r .count + 2 * at ≤ 2 * r .at
+  pub after : FromAny ws at k a has (r .at) (r .count) (r .default)
+
+-- rule 5: how many symbols a key takes
+unfoldable pub keyCount : Bool → ℕ
+keyCount true = 0
+keyCount false = 1
+
+-- rule 6: how many symbols a live class takes, by its decorators, its id, whether it takes an alias and whether it has its default symbol
+unfoldable pub classCount : Bool → Option ℕ → Bool → Bool → ℕ
+classCount false id m has = 0
+classCount true (some c) true has = 2
+classCount true (some c) false has = 1
+classCount true none m true = 0
+classCount true none m false = 1

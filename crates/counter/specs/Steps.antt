@@ -20,7 +20,7 @@ use Rattle.inspect.specs.Child.{optOf, opt-is, opt-no, opt-some, opt-none}
 use Rattle.walk_laws.specs.Rows.{visitAt, fresh, row-none, row-past, after-add, one-after, kids-visit}
 use Rattle.walk_laws.specs.After.{keyAfter, memberAfter, mentioned, aliasAfter, defaultAfter, decoratedAfter, classAfter, after-expression, after-dead, after-live}
 use Rattle.walk_laws.specs.Kinds.{isElementKind, role-4, role-20, after-rest, element-after, class-one, class-kind, class-row-one, class-kids, class-here}
-use Rattle.counter.specs.Contract.{aroundOf, stateOf, Below, elementsFrom, Ready, Counts}
+use Rattle.counter.specs.Contract.{aroundOf, stateOf, Below, elementsFrom, aliasIn, Ready, Counts}
 use Rattle.counter.specs.declared.Scope.{Scope}
 use Rattle.counter.specs.declared.Counted.{Counted}
 
@@ -56,8 +56,8 @@ unfolding Below
 below-more n m none h b = tt
 below-more n m (some c) h b = omega arith
 
-module _ {ws aliases : List ℕ} {at n : ℕ} (f : Ready ws aliases at n) where
-  pub ready-on : (q m : ℕ) → q ≤ length ws → n ≤ m → m + 2 * at ≤ n + 2 * q → Ready ws aliases q m
+module _ {ws notes : List ℕ} {at n : ℕ} (f : Ready ws notes at n) where
+  pub ready-on : (q m : ℕ) → q ≤ length ws → n ≤ m → m + 2 * at ≤ n + 2 * q → Ready ws notes q m
   ready-on q m h l g = record {
     few = f .few;
     inside = h;
@@ -67,11 +67,11 @@ module _ {ws aliases : List ℕ} {at n : ℕ} (f : Ready ws aliases at n) where
     room = omega (arith, f .room, f .inside);
   }
 
-  pub ready-next : at < length ws → Ready ws aliases (at + 1) n
+  pub ready-next : at < length ws → Ready ws notes (at + 1) n
   ready-next h = ready-on (at + 1) n (omega arith) (omega arith) (omega arith)
 
   -- behind some records that were counted
-  pub ready-behind : {k : ℕ} {a : Scope} {d : ℕ} {r : Counted} → Counts ws at k a n d r → Ready ws aliases (r .at) (r .next)
+  pub ready-behind : {k : ℕ} {a : Scope} {d : ℕ} {r : Counted} → Counts ws at k a n d r → Ready ws notes (r .at) (r .next)
   ready-behind {r = r} c = ready-on (r .at) (r .next) (counts-within c (f .inside)) (counts-low c) (counts-high c)
 
 -- ---- rows
@@ -118,7 +118,7 @@ and-none false y e = refl
 pub both-true : (x y : Bool) → x ≡ true → y ≡ true → (x && y) ≡ true
 both-true x y e g = rw (e, g)
 
-module _ {ws aliases : List ℕ} {at n : ℕ} (f : Ready ws aliases at n) (h : at < length ws) (a : Scope) (d : ℕ) where
+module _ {ws notes : List ℕ} {at n : ℕ} (f : Ready ws notes at n) (h : at < length ws) (a : Scope) (d : ℕ) where
   pub kids-state : {r : Counted} → Counts ws (at + 1) (arityAt ws at) a n d r → visit (aroundOf a) (kidsAt ws at) (stateOf n d) .after ≡ stateOf (r .next) (r .default)
   kids-state c = sym (ap (λ (x : Result). x .after) (kids-visit ws (aroundOf a) at (stateOf n d))) ∙ c .state
 
@@ -235,11 +235,11 @@ module _ {ws aliases : List ℕ} {at n : ℕ} (f : Ready ws aliases at n) (h : a
 
     -- the table says what rule 6's search finds
     pub found : isDecorated (kidsAt ws (at + 1)) ≡ true → isLive (takeF 1 (recordsAt ws (at + 1))) ≡ true →
-        eqb (getD aliases at 0) 1 ≡ mentioned (idOf (kidsAt ws (at + 1))) (elementsFrom ws at n)
+        aliasIn (getD notes at 0) ≡ mentioned (idOf (kidsAt ws (at + 1))) (elementsFrom ws at n)
     found e v = f .planned .right at n h kind v e (f .ids (at + 1) (class-kind ws (f .whole) at h kind))
 
     search : (x : Bool) → x ≡ isDecorated (kidsAt ws (at + 1)) → isLive (takeF 1 (recordsAt ws (at + 1))) ≡ true → (t : State) →
-        classAfter x (idOf (kidsAt ws (at + 1))) (eqb (getD aliases at 0) 1) t ≡ classAfter x (idOf (kidsAt ws (at + 1))) (mentioned (idOf (kidsAt ws (at + 1))) (elementsFrom ws at n)) t
+        classAfter x (idOf (kidsAt ws (at + 1))) (aliasIn (getD notes at 0)) t ≡ classAfter x (idOf (kidsAt ws (at + 1))) (mentioned (idOf (kidsAt ws (at + 1))) (elementsFrom ws at n)) t
     search true e v t = ap (λ (y : Bool). classAfter true (idOf (kidsAt ws (at + 1))) y t) (found (sym e) v)
     search false e v t = unfold classAfter in refl
 
@@ -260,7 +260,7 @@ module _ {ws aliases : List ℕ} {at n : ℕ} (f : Ready ws aliases at n) (h : a
     -- a live class: m is the counter once it has its symbols
     pub count-live : (b : Scope) {r : Counted} (m : ℕ) → b .live ≡ true → optOf (b .id) ≡ idOf (kidsAt ws (at + 1)) → isLive (takeF 1 (recordsAt ws (at + 1))) ≡ true →
         Counts ws (at + 1) 1 b n 67108864 r →
-        m ≡ classAfter (isDecorated (kidsAt ws (at + 1))) (optOf (b .id)) (eqb (getD aliases at 0) 1) (stateOf (r .next) (r .default)) →
+        m ≡ classAfter (isDecorated (kidsAt ws (at + 1))) (optOf (b .id)) (aliasIn (getD notes at 0)) (stateOf (r .next) (r .default)) →
         Counts ws at 1 a n d (record { at = r .at; next = m; default = d })
     count-live b {r} m l i v c e =
         let ck : Trees = kidsAt ws (at + 1) in
@@ -273,7 +273,7 @@ module _ {ws aliases : List ℕ} {at n : ℕ} (f : Ready ws aliases at n) (h : a
         ∙ ap (λ (g : Trees). record { next = classAfter (isDecorated (classKids kk)) (idOf (classKids kk)) (mentioned (idOf (classKids kk)) g) (stateOf (r .next) (r .default)); default = stateOf n d .default }) elements-at
         ∙ ap (λ (g : Trees). record { next = classAfter (isDecorated g) (idOf g) (mentioned (idOf g) (elementsFrom ws at n)) (stateOf (r .next) (r .default)); default = stateOf n d .default }) (class-kids ws (f .whole) at h kind)
         ∙ ap (λ (j : ℕ). record { next = j; default = stateOf n d .default })
-        (sym (search (isDecorated ck) refl v (stateOf (r .next) (r .default))) ∙ ap (λ (o : Option ℕ). classAfter (isDecorated ck) o (eqb (getD aliases at 0) 1) (stateOf (r .next) (r .default))) (sym i) ∙ sym e)
+        (sym (search (isDecorated ck) refl v (stateOf (r .next) (r .default))) ∙ ap (λ (o : Option ℕ). classAfter (isDecorated ck) o (aliasIn (getD notes at 0)) (stateOf (r .next) (r .default))) (sym i) ∙ sym e)
         ∙ default-of m)
 
 -- ---- the symbols of a class and of a key, by their numbers

@@ -1,9 +1,9 @@
-// The next fresh symbol and the default symbol of the class around, behind some records (rules 1 and 4 to 6). Reads the words, writes nothing.
+// The next fresh symbol and the default symbol of the class around, behind some records (rules 1 and 4 to 6). Reads the words and their notes, writes
+// nothing; walks no further down than to the elements of a class, since the notes say the rest.
 use inspect::NONE;
 ghost use mathlib.Core.Path.{_≡_};
-ghost use mathlib.Core.Bool.{true};
-ghost use Prim.Native.Nat.{_+_, _<_, _≤_};
-ghost use lib.Dec.{eqb};
+ghost use mathlib.Core.Bool.{true, _||_};
+ghost use Prim.Native.Nat.{_+_, _/_, _%_, _<_, _≤_};
 ghost use lib.ListN.{length, getD};
 ghost use Rattle.records.specs.Place.{labelAt, kidsAt};
 ghost use Rattle.rewriting.specs.Parts.{hasPlainKey, isDecorated};
@@ -11,7 +11,7 @@ ghost use Rattle.rewriting.specs.Visit.{classSymbol};
 ghost use Rattle.inspect.specs.Child.{optOf};
 ghost use Rattle.walk_laws.specs.After.{keyAfter, classAfter};
 ghost use Rattle.walk_laws.specs.Kinds.{isElementKind};
-ghost use Rattle.counter.specs.Contract.{stateOf, Ready, Counts};
+ghost use Rattle.counter.specs.Contract.{stateOf, aliasIn, Ready, Counts, Annotated, Walks, Totals, Near, hasDefault, defaultFrom, keyCount, classCount};
 
 // The class directly around: is it live, and the symbol of its id.
 pub struct Scope {
@@ -32,113 +32,181 @@ pub struct Counted {
     pub default: u32,
 }
 
-// The k records at `at`. aliases: 1 at the place of each class statement whose class takes an alias.
-pub fn count_records(ws: &[u32], aliases: &[u8], at: usize, k: usize, a: Scope, s: Count) -> Counted
-    requires { ⌜ Ready (now ws) (now aliases) at (s .next) ⌝ }
+// How far some records lead: where they end, how many fresh symbols they take, and which of these, counted from 0, becomes the default symbol of the
+// class around; NONE if none does.
+pub struct Total {
+    pub at: usize,
+    pub count: u32,
+    pub default: u32,
+}
+
+// The k records at `at`. notes: what `annotate` says of each place.
+pub fn count_records(ws: &[u32], notes: &[u32], at: usize, k: usize, a: Scope, s: Count) -> Counted
+    requires { ⌜ Ready (now ws) (now notes) at (s .next) × Annotated (now ws) (now notes) at ⌝ }
     ensures { λ r. ⌜ Counts (now (ws .entry)) at k a (s .next) (s .default) r ⌝ }
+{
+    behind(total_records(ws, notes, at, k, a, s.default != NONE), s)
+}
+
+pub fn count_record(ws: &[u32], notes: &[u32], at: usize, a: Scope, s: Count) -> Counted
+    requires { ⌜ Ready (now ws) (now notes) at (s .next) × Annotated (now ws) (now notes) at × (at < length (now ws)) ⌝ }
+    ensures { λ r. ⌜ Counts (now (ws .entry)) at 1 a (s .next) (s .default) r ⌝ }
+{
+    behind(total_record(ws, notes, at, a, s.default != NONE), s)
+}
+
+// The state behind records that lead so far, from the state s on.
+fn behind(t: Total, s: Count) -> Counted
+    requires { ⌜ (s .next + t .count < 67108864) × Near (t .default) (s .next) ⌝ }
+    ensures { λ r. ⌜ (r .at ≡ t .at) × (r .next ≡ s .next + t .count) × (r .default ≡ defaultFrom (t .default) (s .next) (s .default)) ⌝ }
+{
+    Counted {
+        at: t.at,
+        next: s.next + t.count,
+        default: default_from(t.default, s.next, s.default),
+    }
+}
+
+// The default symbol behind records that take the symbol n + o for it, or d if o is NONE.
+fn default_from(o: u32, n: u32, d: u32) -> u32
+    requires { ⌜ Near o n ⌝ }
+    ensures { λ r. ⌜ r ≡ defaultFrom o n d ⌝ }
+{
+    if o == NONE {
+        return d;
+    }
+    n + o
+}
+
+// The k records at `at`; has: the class around has its default symbol.
+pub fn total_records(ws: &[u32], notes: &[u32], at: usize, k: usize, a: Scope, has: bool) -> Total
+    requires { ⌜ Walks (now ws) (now notes) at ⌝ }
+    ensures { λ r. ⌜ Totals (now (ws .entry)) at k a has r ⌝ }
 {
     let mut q = at;
     let mut i = 0;
-    let mut n = s.next;
-    let mut d = s.default;
+    let mut n: u32 = 0;
+    let mut d = NONE;
     while i < k {
         if ws.len() <= q {
-            return Counted {
+            return Total {
                 at: q,
-                next: n,
+                count: n,
                 default: d,
             };
         }
-        let r = count_record(
-            ws,
-            aliases,
-            q,
-            a,
-            Count {
-                next: n,
-                default: d,
-            },
-        );
+        let r = total_record(ws, notes, q, a, has_default(has, d));
+        d = default_from(r.default, n, d);
         q = r.at;
-        n = r.next;
-        d = r.default;
+        n += r.count;
         i += 1;
     }
-    Counted {
+    Total {
         at: q,
-        next: n,
+        count: n,
         default: d,
     }
 }
 
-pub fn count_record(ws: &[u32], aliases: &[u8], at: usize, a: Scope, s: Count) -> Counted
-    requires { ⌜ Ready (now ws) (now aliases) at (s .next) × (at < length (now ws)) ⌝ }
-    ensures { λ r. ⌜ Counts (now (ws .entry)) at 1 a (s .next) (s .default) r ⌝ }
+// Has the class its default symbol behind records that take d for it, or none?
+fn has_default(has: bool, d: u32) -> bool
+    ensures { λ r. ⌜ r ≡ (hasDefault d || has) ⌝ }
 {
+    if d != NONE {
+        return true;
+    }
+    has
+}
+
+// Only a class, a body and an element depend on the class around: all else is in the note.
+fn total_record(ws: &[u32], notes: &[u32], at: usize, a: Scope, has: bool) -> Total
+    requires { ⌜ Walks (now ws) (now notes) at × (at < length (now ws)) ⌝ }
+    ensures { λ r. ⌜ Totals (now (ws .entry)) at 1 a has r ⌝ }
+{
+    if !a.live {
+        return from_note(notes[at]);
+    }
     let k = inspect::kind_at(ws, at);
     match k {
-        4 => count_class_statement(ws, aliases, at, a, s),
-        20 => count_class_expression(ws, aliases, at, a, s),
-        30 => count_element(ws, aliases, at, a, s),
-        31 => count_element(ws, aliases, at, a, s),
-        32 => count_element(ws, aliases, at, a, s),
-        _ => count_records(ws, aliases, at + 1, inspect::children_at(ws, at), a, s),
+        26 => total_records(ws, notes, at + 1, inspect::children_at(ws, at), a, has),
+        29 => total_records(ws, notes, at + 1, inspect::children_at(ws, at), a, has),
+        30 => total_element(ws, notes, at, a, has),
+        31 => total_element(ws, notes, at, a, has),
+        32 => total_element(ws, notes, at, a, has),
+        _ => from_note(notes[at]),
     }
 }
 
-fn count_class_expression(ws: &[u32], aliases: &[u8], at: usize, a: Scope, s: Count) -> Counted
-    requires { ⌜ Ready (now ws) (now aliases) at (s .next) × (at < length (now ws)) × (labelAt (now ws) at .kind ≡ 20) ⌝ }
-    ensures { λ r. ⌜ Counts (now (ws .entry)) at 1 a (s .next) (s .default) r ⌝ }
+// What the note w says.
+fn from_note(w: u32) -> Total
+    ensures { λ r. ⌜ (r .at ≡ w / 32768) × (r .count ≡ w / 2 % 16384) × (r .default ≡ 67108864) ⌝ }
 {
-    let r = count_records(
-        ws,
-        aliases,
-        at + 1,
-        1,
-        Scope {
-            live: false,
-            id: NONE,
-        },
-        Count {
-            next: s.next,
-            default: NONE,
-        },
-    );
-    Counted {
-        at: r.at,
-        next: r.next,
-        default: s.default,
+    Total {
+        at: (w / 32768) as usize,
+        count: w / 2 % 16384,
+        default: NONE,
     }
 }
 
-// A method, constructor, property or accessor.
-fn count_element(ws: &[u32], aliases: &[u8], at: usize, a: Scope, s: Count) -> Counted
-    requires { ⌜ Ready (now ws) (now aliases) at (s .next) × (at < length (now ws)) × (isElementKind (labelAt (now ws) at .kind) ≡ true) ⌝ }
-    ensures { λ r. ⌜ Counts (now (ws .entry)) at 1 a (s .next) (s .default) r ⌝ }
+// A method, constructor, property or accessor of a live class.
+fn total_element(ws: &[u32], notes: &[u32], at: usize, a: Scope, has: bool) -> Total
+    requires { ⌜ Walks (now ws) (now notes) at × (at < length (now ws)) × (isElementKind (labelAt (now ws) at .kind) ≡ true) × (a .live ≡ true) ⌝ }
+    ensures { λ r. ⌜ Totals (now (ws .entry)) at 1 a has r ⌝ }
 {
-    let r = count_records(ws, aliases, at + 1, inspect::children_at(ws, at), a, s);
-    if !a.live {
-        return r;
-    }
+    let t = from_note(notes[at]);
     if !inspect::member_decorated(ws, at) {
-        return r;
+        return t;
     }
-    let t = key_symbol(
-        ws,
-        at,
-        class_symbol(
-            a,
-            Count {
-                next: r.next,
-                default: r.default,
-            },
-        ),
-    );
-    Counted {
-        at: r.at,
-        next: t.next,
-        default: t.default,
+    let key = key_count(ws, at);
+    if a.id != NONE {
+        return Total {
+            at: t.at,
+            count: t.count + key,
+            default: NONE,
+        };
     }
+    if has {
+        return Total {
+            at: t.at,
+            count: t.count + key,
+            default: NONE,
+        };
+    }
+    Total {
+        at: t.at,
+        count: t.count + 1 + key,
+        default: t.count,
+    }
+}
+
+// Rule 5: 1 if the key of the member at `at` takes a symbol.
+fn key_count(ws: &[u32], at: usize) -> u32
+    ensures { λ r. ⌜ (r ≡ keyCount (hasPlainKey (kidsAt (now (ws .entry)) at))) × (r ≤ 1) ⌝ }
+{
+    if inspect::plain_key(ws, at) {
+        return 0;
+    }
+    1
+}
+
+// Rule 6: how many symbols the live class of the statement at `at` takes; default: its default symbol, or NONE.
+pub fn class_count(ws: &[u32], notes: &[u32], at: usize, id: u32, default: u32) -> u32
+    requires { ⌜ (at < length (now notes)) × (at < 67108864) ⌝ }
+    ensures { λ r. ⌜ (r ≡ classCount (isDecorated (kidsAt (now (ws .entry)) (at + 1))) (optOf id) (aliasIn (getD (now (notes .entry)) at 0)) (hasDefault default)) × (r ≤ 2) ⌝ }
+{
+    if !inspect::check_class_has_decorated(ws, at + 1) {
+        return 0;
+    }
+    if id != NONE {
+        if notes[at] % 2 == 1 {
+            return 2;
+        }
+        return 1;
+    }
+    if default != NONE {
+        return 0;
+    }
+    1
 }
 
 // Rule 4: the state once the class has a symbol.
@@ -172,63 +240,10 @@ pub fn key_symbol(ws: &[u32], at: usize, s: Count) -> Count
     }
 }
 
-fn count_class_statement(ws: &[u32], aliases: &[u8], at: usize, a: Scope, s: Count) -> Counted
-    requires { ⌜ Ready (now ws) (now aliases) at (s .next) × (at < length (now ws)) × (labelAt (now ws) at .kind ≡ 4) ⌝ }
-    ensures { λ r. ⌜ Counts (now (ws .entry)) at 1 a (s .next) (s .default) r ⌝ }
-{
-    let id = inspect::class_id(ws, at + 1);
-    let live = inspect::is_live(ws, at + 1);
-    let r = count_records(
-        ws,
-        aliases,
-        at + 1,
-        1,
-        Scope { live, id },
-        Count {
-            next: s.next,
-            default: NONE,
-        },
-    );
-    if live {
-        let n = class_symbols(
-            ws,
-            aliases,
-            at,
-            id,
-            Count {
-                next: r.next,
-                default: r.default,
-            },
-        );
-        return Counted {
-            at: r.at,
-            next: n,
-            default: s.default,
-        };
-    }
-    Counted {
-        at: r.at,
-        next: r.next,
-        default: s.default,
-    }
-}
-
 // Rule 6: the next fresh symbol once the live class of the statement at `at` has its symbols; s is the state behind its children.
-pub fn class_symbols(ws: &[u32], aliases: &[u8], at: usize, id: u32, s: Count) -> u32
-    requires { ⌜ (at < length (now aliases)) × (s .next < 67108864) × (at < 67108864) ⌝ }
-    ensures { λ r. ⌜ r ≡ classAfter (isDecorated (kidsAt (now (ws .entry)) (at + 1))) (optOf id) (eqb (getD (now (aliases .entry)) at 0) 1) (stateOf (s .next) (s .default)) ⌝ }
+pub fn class_symbols(ws: &[u32], notes: &[u32], at: usize, id: u32, s: Count) -> u32
+    requires { ⌜ (at < length (now notes)) × (s .next < 67108864) × (at < 67108864) ⌝ }
+    ensures { λ r. ⌜ r ≡ classAfter (isDecorated (kidsAt (now (ws .entry)) (at + 1))) (optOf id) (aliasIn (getD (now (notes .entry)) at 0)) (stateOf (s .next) (s .default)) ⌝ }
 {
-    if !inspect::check_class_has_decorated(ws, at + 1) {
-        return s.next;
-    }
-    if id != NONE {
-        if aliases[at] == 1 {
-            return s.next + 2;
-        }
-        return s.next + 1;
-    }
-    if s.default != NONE {
-        return s.next;
-    }
-    s.next + 1
+    s.next + class_count(ws, notes, at, id, s.default)
 }

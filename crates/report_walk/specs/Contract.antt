@@ -36,8 +36,8 @@ unfoldable pub reportAt : List ℕ → ℕ → ℕ → Around → State → List
 reportAt ws at k around s = words (visitAt ws at k around s .fresh)
 
 -- what a walker at the place `at` with the counter n asks, writing from `pos` on: what the counter asks, and two places for each word left to read
-pub record Asks (ws aliases : List ℕ) (at n pos : ℕ) : Type 0 where
-  pub ready : Ready ws aliases at n
+pub record Asks (ws notes : List ℕ) (at n pos : ℕ) : Type 0 where
+  pub ready : Ready ws notes at n
   pub places : pos + 2 * (length ws - at) < 67108864
 
 -- what it leaves for the k records at `at`, from the state n, d on: the counter's answer, and their words in the slice, o before and o′ after

@@ -38,12 +38,12 @@ module _ {ws : List ℕ} {at k : ℕ} {a : Scope} {n d : ℕ} {o : List ℕ} {po
 
 -- ---- what a walker may ask further on
 
-module _ {ws aliases : List ℕ} {at n pos : ℕ} (f : Asks ws aliases at n pos) where
-  pub asks-next : at < length ws → Asks ws aliases (at + 1) n pos
+module _ {ws notes : List ℕ} {at n pos : ℕ} (f : Asks ws notes at n pos) where
+  pub asks-next : at < length ws → Asks ws notes (at + 1) n pos
   asks-next h = record { ready = ready-next (f .ready) h; places = omega (arith, f .places) }
 
   -- behind some records
-  pub asks-behind : {k : ℕ} {a : Scope} {d : ℕ} {o o′ : List ℕ} {r : Reported} → Reports ws at k a n d o pos o′ r → Asks ws aliases (r .at) (r .next) (r .pos)
+  pub asks-behind : {k : ℕ} {a : Scope} {d : ℕ} {o o′ : List ℕ} {r : Reported} → Reports ws at k a n d o pos o′ r → Asks ws notes (r .at) (r .next) (r .pos)
   asks-behind c = record {
     ready = ready-behind (f .ready) (c .counts);
     places = omega (arith, f .places, f .ready .inside, reports-pos c, counts-high (c .counts), counts-within (c .counts) (f .ready .inside));
@@ -103,7 +103,7 @@ member-words : (id : Option ℕ) (p : Bool) (n d m e : ℕ) → stateOf m e ≡ 
 unfolding memberFresh stateOf
 member-words id p n d m e t = words-append _ _ ∙ ap (λ (x : State). words (classSymbol id (optOf d) (stateOf n d) .fresh) ++ words (keyFresh p (x .next))) (sym t)
 
-module _ {ws aliases : List ℕ} {at n pos : ℕ} (f : Asks ws aliases at n pos) (h : at < length ws) (a : Scope) (d : ℕ) where
+module _ {ws notes : List ℕ} {at n pos : ℕ} (f : Asks ws notes at n pos) (h : at < length ws) (a : Scope) (d : ℕ) where
   kids-words : words (visit (aroundOf a) (kidsAt ws at) (stateOf n d) .fresh) ≡ reportAt ws (at + 1) (arityAt ws at) (aroundOf a) (stateOf n d)
   unfolding reportAt
   kids-words = ap (λ (r : Result). words (r .fresh)) (sym (kids-visit ws (aroundOf a) at (stateOf n d)))
@@ -180,15 +180,15 @@ module _ {ws aliases : List ℕ} {at n pos : ℕ} (f : Asks ws aliases at n pos)
         ∙ below-words b false _ l (i ∙ sym (id-kids (f .ready) h a d kind)) (class-row-one ws (f .ready .whole) at h kind)) (c .wrote)
 
     search : (x : Bool) → x ≡ isDecorated (kidsAt ws (at + 1)) → isLive (takeF 1 (recordsAt ws (at + 1))) ≡ true → (t : State) →
-        classFresh x (idOf (kidsAt ws (at + 1))) (mentioned (idOf (kidsAt ws (at + 1))) (elementsFrom ws at n)) t ≡ classFresh x (idOf (kidsAt ws (at + 1))) (eqb (getD aliases at 0) 1) t
+        classFresh x (idOf (kidsAt ws (at + 1))) (mentioned (idOf (kidsAt ws (at + 1))) (elementsFrom ws at n)) t ≡ classFresh x (idOf (kidsAt ws (at + 1))) (aliasIn (getD notes at 0)) t
     search true e v t = ap (λ (y : Bool). classFresh true (idOf (kidsAt ws (at + 1))) y t) (sym (found (f .ready) h a d kind (sym e) v))
     search false e v t = unfold classFresh in refl
 
     -- a live class: m is the counter once it has its symbols
     pub report-live : (b : Scope) {o o₁ : List ℕ} {r : Reported} (m : ℕ) {o₂ : List ℕ} (p : ℕ) → b .live ≡ true → optOf (b .id) ≡ idOf (kidsAt ws (at + 1)) → isLive (takeF 1 (recordsAt ws (at + 1))) ≡ true →
         Reports ws (at + 1) 1 b n 67108864 o pos o₁ r →
-        m ≡ classAfter (isDecorated (kidsAt ws (at + 1))) (optOf (b .id)) (eqb (getD aliases at 0) 1) (stateOf (r .next) (r .default)) →
-        Wrote o₁ (r .pos) (words (classFresh (isDecorated (kidsAt ws (at + 1))) (optOf (b .id)) (eqb (getD aliases at 0) 1) (stateOf (r .next) (r .default)))) o₂ p →
+        m ≡ classAfter (isDecorated (kidsAt ws (at + 1))) (optOf (b .id)) (aliasIn (getD notes at 0)) (stateOf (r .next) (r .default)) →
+        Wrote o₁ (r .pos) (words (classFresh (isDecorated (kidsAt ws (at + 1))) (optOf (b .id)) (aliasIn (getD notes at 0)) (stateOf (r .next) (r .default)))) o₂ p →
         Reports ws at 1 a n d o pos o₂ (record { at = r .at; pos = p; next = m; default = d })
     report-live b {o} {r = r} m p l i v c e w =
         let ck : Trees = kidsAt ws (at + 1) in
@@ -207,7 +207,7 @@ module _ {ws aliases : List ℕ} {at n pos : ℕ} (f : Asks ws aliases at n pos)
         (ap (λ (g : Trees). classFresh (isDecorated (classKids kk)) (idOf (classKids kk)) (mentioned (idOf (classKids kk)) g) t) (elements-at (f .ready) h a d kind)
         ∙ ap (λ (g : Trees). classFresh (isDecorated g) (idOf g) (mentioned (idOf g) (elementsFrom ws at n)) t) (class-kids ws (f .ready .whole) at h kind)
         ∙ search (isDecorated ck) refl v t
-        ∙ ap (λ (x : Option ℕ). classFresh (isDecorated ck) x (eqb (getD aliases at 0) 1) t) (sym i)))
+        ∙ ap (λ (x : Option ℕ). classFresh (isDecorated ck) x (aliasIn (getD notes at 0)) t) (sym i)))
         (wrote-then (c .wrote) w)
 
 -- ---- the symbols of a class and of a key, by their numbers

@@ -34,10 +34,10 @@ pub struct Reported {
     pub default: u32,
 }
 
-// The k records at `at`; the report's words go to `out` from `pos` on. aliases: 1 at the place of each class statement whose class takes an alias.
+// The k records at `at`; the report's words go to `out` from `pos` on. notes: 1 at the place of each class statement whose class takes an alias.
 pub fn report_records(
     ws: &[u32],
-    aliases: &[u8],
+    notes: &[u32],
     at: usize,
     k: usize,
     a: Scope,
@@ -45,7 +45,7 @@ pub fn report_records(
     out: &mut [u32],
     pos: usize,
 ) -> Reported
-    requires { ⌜ Asks (now ws) (now aliases) at (s .next) pos ⌝ }
+    requires { ⌜ Asks (now ws) (now notes) at (s .next) pos ⌝ }
     ensures { λ r. ⌜ Reports (now (ws .entry)) at k a (s .next) (s .default) (now (out .entry)) pos (now (out .exit)) r ⌝ }
 {
     let mut q = at;
@@ -64,7 +64,7 @@ pub fn report_records(
         }
         let r = report_record(
             ws,
-            aliases,
+            notes,
             q,
             a,
             Count {
@@ -90,26 +90,26 @@ pub fn report_records(
 
 pub fn report_record(
     ws: &[u32],
-    aliases: &[u8],
+    notes: &[u32],
     at: usize,
     a: Scope,
     s: Count,
     out: &mut [u32],
     pos: usize,
 ) -> Reported
-    requires { ⌜ Asks (now ws) (now aliases) at (s .next) pos × (at < length (now ws)) ⌝ }
+    requires { ⌜ Asks (now ws) (now notes) at (s .next) pos × (at < length (now ws)) ⌝ }
     ensures { λ r. ⌜ Reports (now (ws .entry)) at 1 a (s .next) (s .default) (now (out .entry)) pos (now (out .exit)) r ⌝ }
 {
     let k = inspect::kind_at(ws, at);
     match k {
-        4 => report_class_statement(ws, aliases, at, a, s, out, pos),
-        20 => report_class_expression(ws, aliases, at, a, s, out, pos),
-        30 => report_element(ws, aliases, at, a, s, out, pos),
-        31 => report_element(ws, aliases, at, a, s, out, pos),
-        32 => report_element(ws, aliases, at, a, s, out, pos),
+        4 => report_class_statement(ws, notes, at, a, s, out, pos),
+        20 => report_class_expression(ws, notes, at, a, s, out, pos),
+        30 => report_element(ws, notes, at, a, s, out, pos),
+        31 => report_element(ws, notes, at, a, s, out, pos),
+        32 => report_element(ws, notes, at, a, s, out, pos),
         _ => report_records(
             ws,
-            aliases,
+            notes,
             at + 1,
             inspect::children_at(ws, at),
             a,
@@ -122,19 +122,19 @@ pub fn report_record(
 
 fn report_class_expression(
     ws: &[u32],
-    aliases: &[u8],
+    notes: &[u32],
     at: usize,
     a: Scope,
     s: Count,
     out: &mut [u32],
     pos: usize,
 ) -> Reported
-    requires { ⌜ Asks (now ws) (now aliases) at (s .next) pos × (at < length (now ws)) × (labelAt (now ws) at .kind ≡ 20) ⌝ }
+    requires { ⌜ Asks (now ws) (now notes) at (s .next) pos × (at < length (now ws)) × (labelAt (now ws) at .kind ≡ 20) ⌝ }
     ensures { λ r. ⌜ Reports (now (ws .entry)) at 1 a (s .next) (s .default) (now (out .entry)) pos (now (out .exit)) r ⌝ }
 {
     let r = report_records(
         ws,
-        aliases,
+        notes,
         at + 1,
         1,
         Scope {
@@ -159,19 +159,19 @@ fn report_class_expression(
 // A method, constructor, property or accessor.
 fn report_element(
     ws: &[u32],
-    aliases: &[u8],
+    notes: &[u32],
     at: usize,
     a: Scope,
     s: Count,
     out: &mut [u32],
     pos: usize,
 ) -> Reported
-    requires { ⌜ Asks (now ws) (now aliases) at (s .next) pos × (at < length (now ws)) × (isElementKind (labelAt (now ws) at .kind) ≡ true) ⌝ }
+    requires { ⌜ Asks (now ws) (now notes) at (s .next) pos × (at < length (now ws)) × (isElementKind (labelAt (now ws) at .kind) ≡ true) ⌝ }
     ensures { λ r. ⌜ Reports (now (ws .entry)) at 1 a (s .next) (s .default) (now (out .entry)) pos (now (out .exit)) r ⌝ }
 {
     let r = report_records(
         ws,
-        aliases,
+        notes,
         at + 1,
         inspect::children_at(ws, at),
         a,
@@ -227,21 +227,21 @@ fn put_key_symbol(ws: &[u32], at: usize, next: u32, out: &mut [u32], pos: usize)
 
 fn report_class_statement(
     ws: &[u32],
-    aliases: &[u8],
+    notes: &[u32],
     at: usize,
     a: Scope,
     s: Count,
     out: &mut [u32],
     pos: usize,
 ) -> Reported
-    requires { ⌜ Asks (now ws) (now aliases) at (s .next) pos × (at < length (now ws)) × (labelAt (now ws) at .kind ≡ 4) ⌝ }
+    requires { ⌜ Asks (now ws) (now notes) at (s .next) pos × (at < length (now ws)) × (labelAt (now ws) at .kind ≡ 4) ⌝ }
     ensures { λ r. ⌜ Reports (now (ws .entry)) at 1 a (s .next) (s .default) (now (out .entry)) pos (now (out .exit)) r ⌝ }
 {
     let id = inspect::class_id(ws, at + 1);
     let live = inspect::is_live(ws, at + 1);
     let r = report_records(
         ws,
-        aliases,
+        notes,
         at + 1,
         1,
         Scope { live, id },
@@ -257,11 +257,11 @@ fn report_class_statement(
             next: r.next,
             default: r.default,
         };
-        let p = put_class_symbols(ws, aliases, at, id, t, out, r.pos);
+        let p = put_class_symbols(ws, notes, at, id, t, out, r.pos);
         return Reported {
             at: r.at,
             pos: p,
-            next: counter::class_symbols(ws, aliases, at, id, t),
+            next: counter::class_symbols(ws, notes, at, id, t),
             default: s.default,
         };
     }
@@ -276,15 +276,15 @@ fn report_class_statement(
 // Rule 6: the words of the symbols of the live class of the statement at `at`; s is the state behind its children.
 fn put_class_symbols(
     ws: &[u32],
-    aliases: &[u8],
+    notes: &[u32],
     at: usize,
     id: u32,
     s: Count,
     out: &mut [u32],
     pos: usize,
 ) -> usize
-    requires { ⌜ (at < length (now aliases)) × (s .next + 1 < 67108864) × (at < 67108864) × (pos + 1 < 67108864) ⌝ }
-    ensures { λ r. ⌜ Wrote (now (out .entry)) pos (words (classFresh (isDecorated (kidsAt (now (ws .entry)) (at + 1))) (optOf id) (eqb (getD (now (aliases .entry)) at 0) 1) (stateOf (s .next) (s .default)))) (now (out .exit)) r ⌝ }
+    requires { ⌜ (at < length (now notes)) × (s .next + 1 < 67108864) × (at < 67108864) × (pos + 1 < 67108864) ⌝ }
+    ensures { λ r. ⌜ Wrote (now (out .entry)) pos (words (classFresh (isDecorated (kidsAt (now (ws .entry)) (at + 1))) (optOf id) (aliasIn (getD (now (notes .entry)) at 0)) (stateOf (s .next) (s .default)))) (now (out .exit)) r ⌝ }
 {
     if !inspect::check_class_has_decorated(ws, at + 1) {
         return pos;
@@ -293,7 +293,7 @@ fn put_class_symbols(
         return put_class_symbol(id, s, out, pos);
     }
     let p = output::put(out, pos, words::word_of(INNER, s.next));
-    if aliases[at] == 1 {
+    if notes[at] % 2 == 1 {
         return output::put(out, p, words::word_of(ALIAS, s.next + 1));
     }
     p

@@ -112,11 +112,11 @@ module _ (ws : List ℕ) (ok : refusal ws ≡ 0) where
     start-nest : nestAt ws 0 1 ≤ capacity
     start-nest = omega (arith, start-tree, nest-height (treeOf ws) (well ws ok .fits), well ws ok .depth)
 
-    pub start-asks : (aliases : List ℕ) → Planned ws aliases → StackReady c → Asks ws aliases 0 1 (symbolsOf ws) c 0 (size (hereAt ws 0 1 startScope (startCount ws)))
-    start-asks aliases p r = record {
-      ready = start-ready ws ok aliases p;
+    pub start-asks : (notes : List ℕ) → Planned ws notes → StackReady c → Asks ws notes 0 1 (symbolsOf ws) c 0 (size (hereAt ws 0 1 startScope (startCount ws)))
+    start-asks notes p r = record {
+      ready = start-ready ws ok notes p;
       stack = r;
-      deep = omega (arith, start-nest, no-entries (c .symbols) (c .aliases) (c .depth) empty);
+      deep = omega (arith, start-nest, no-entries (c .symbols) (c .notes) (c .depth) empty);
       fit = omega (arith, start-size, module-length ws ok, well ws ok .sized .few);
     }
 

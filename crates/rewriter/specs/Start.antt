@@ -95,8 +95,8 @@ module _ (ws : List ℕ) (ok : refusal ws ≡ 0) where
   pub start-fits : Fits (module′ ∷ []) (recordsAt ws 0)
   start-fits = subst (Fits (module′ ∷ [])) (sym (records-tree ws)) (well .fits)
 
-  pub start-ready : (aliases : List ℕ) → Planned ws aliases → Ready ws aliases 0 (symbolsOf ws)
-  start-ready aliases p = record {
+  pub start-ready : (notes : List ℕ) → Planned ws notes → Ready ws notes 0 (symbolsOf ws)
+  start-ready notes p = record {
     few = well .sized .few;
     inside = omega arith;
     whole = start-fits;

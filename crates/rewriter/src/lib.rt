@@ -35,10 +35,10 @@ pub fn rewrite(ws: &[u32], out: &mut [u32]) -> Answer
             fresh: 0,
         };
     }
-    let mut aliases = [0u8; 4096];
-    alias_table::find_aliases(ws, &mut aliases);
+    let mut notes = [0u32; 4096];
+    alias_table::find_aliases(ws, &mut notes);
     let mut none = [0u32; 0];
-    let m = write_module(ws, &aliases, &mut none);
+    let m = write_module(ws, &notes, &mut none);
     if out.len() < m.pos {
         return Answer {
             code: 8,
@@ -46,7 +46,7 @@ pub fn rewrite(ws: &[u32], out: &mut [u32]) -> Answer
             fresh: 0,
         };
     }
-    let r = write_module(ws, &aliases, out);
+    let r = write_module(ws, &notes, out);
     Answer {
         code: 0,
         written: r.pos,
@@ -69,14 +69,14 @@ pub fn turned_back(ws: &[u32]) -> u32
 }
 
 // What the module becomes, at the start of the output, cut where that ends.
-fn write_module(ws: &[u32], aliases: &[u8], out: &mut [u32]) -> transform::Went
-    requires { ⌜ (refusal (now ws) ≡ 0) × Planned (now ws) (now aliases) ⌝ }
+fn write_module(ws: &[u32], notes: &[u32], out: &mut [u32]) -> transform::Went
+    requires { ⌜ (refusal (now ws) ≡ 0) × Planned (now ws) (now notes) ⌝ }
     ensures { λ r. ⌜ Writes (now (ws .entry)) (now (out .entry)) (now (out .exit)) r ⌝ }
 {
     let s = inspect::payload_at(ws, 1);
     transform::record(
         ws,
-        aliases,
+        notes,
         0,
         Scope {
             live: false,

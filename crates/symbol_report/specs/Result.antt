@@ -24,8 +24,8 @@ pub record WritesReport (ws o o′ : List ℕ) (r : Reported) : Type 0 where
 
 module _ (ws : List ℕ) (ok : refusal ws ≡ 0) where
   -- the walkers may start
-  pub start-asks : (aliases : List ℕ) → Planned ws aliases → (s : ℕ) → s ≡ symbolsOf ws → Asks ws aliases 0 s 0
-  start-asks aliases p s e = subst (λ (n : ℕ). Asks ws aliases 0 n 0) (sym e) (record { ready = start-ready ws ok aliases p; places = omega (arith, well ws ok .sized .few) })
+  pub start-asks : (notes : List ℕ) → Planned ws notes → (s : ℕ) → s ≡ symbolsOf ws → Asks ws notes 0 s 0
+  start-asks notes p s e = subst (λ (n : ℕ). Asks ws notes 0 n 0) (sym e) (record { ready = start-ready ws ok notes p; places = omega (arith, well ws ok .sized .few) })
 
   start-words : reportAt ws 0 1 (aroundOf startScope) (stateOf (symbolsOf ws) 67108864) ≡ reportWords ws
   unfolding reportAt reportWords reported stateIn

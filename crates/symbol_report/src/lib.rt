@@ -24,10 +24,10 @@ pub fn report(ws: &[u32], out: &mut [u32]) -> Answer
             fresh: 0,
         };
     }
-    let mut aliases = [0u8; 4096];
-    alias_table::find_aliases(ws, &mut aliases);
+    let mut notes = [0u32; 4096];
+    alias_table::find_aliases(ws, &mut notes);
     let mut none = [0u32; 0];
-    let m = write_report(ws, &aliases, &mut none);
+    let m = write_report(ws, &notes, &mut none);
     if out.len() < m.pos {
         return Answer {
             code: 8,
@@ -35,7 +35,7 @@ pub fn report(ws: &[u32], out: &mut [u32]) -> Answer
             fresh: 0,
         };
     }
-    let r = write_report(ws, &aliases, out);
+    let r = write_report(ws, &notes, out);
     Answer {
         code: 0,
         written: r.pos,
@@ -44,14 +44,14 @@ pub fn report(ws: &[u32], out: &mut [u32]) -> Answer
 }
 
 // The module's report, at the start of the output, cut where that ends.
-fn write_report(ws: &[u32], aliases: &[u8], out: &mut [u32]) -> Reported
-    requires { ⌜ (refusal (now ws) ≡ 0) × Planned (now ws) (now aliases) ⌝ }
+fn write_report(ws: &[u32], notes: &[u32], out: &mut [u32]) -> Reported
+    requires { ⌜ (refusal (now ws) ≡ 0) × Planned (now ws) (now notes) ⌝ }
     ensures { λ r. ⌜ WritesReport (now (ws .entry)) (now (out .entry)) (now (out .exit)) r ⌝ }
 {
     let s = inspect::payload_at(ws, 1);
     report_walk::report_record(
         ws,
-        aliases,
+        notes,
         0,
         Scope {
             live: false,

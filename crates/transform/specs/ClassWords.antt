@@ -85,15 +85,15 @@ module _ (g : ClassPlan) (c : ClassStack) where
         (wordsOf c ds ++ (written (bodyWord g c) (firstBy b s) ++ (wordBelow c 9 (g .outer) ∷ []))))
 
 -- what a plan says of the class of the statement at `at`, s being the state behind the class's children
-pub record PlanFrom (ws aliases : List ℕ) (at : ℕ) (s : Count) (g : ClassPlan) : Type 0 where
+pub record PlanFrom (ws notes : List ℕ) (at : ℕ) (s : Count) (g : ClassPlan) : Type 0 where
   pub id : optOf (g .id) ≡ idOf (kidsAt ws (at + 1))
   pub decorated : g .decorated ≡ isDecorated (kidsAt ws (at + 1))
   pub private : g .private ≡ hasPrivateIn (kidsAt ws (at + 1))
   pub fixed : g .fixed ≡ hasStatic (elementsOf (kidsAt ws (at + 1)))
   pub calls : g .calls ≡ countCalled (elementsOf (kidsAt ws (at + 1)))
-  pub outer : g .decorated ≡ true → g .outer ≡ planOf true (optOf (g .id)) (stateOf (s .next) (s .default)) (eqb (getD aliases at 0) 1) .outer
-  pub inner : optOf (g .inner) ≡ planOf (g .decorated) (optOf (g .id)) (stateOf (s .next) (s .default)) (eqb (getD aliases at 0) 1) .inner
-  pub alias : optOf (g .alias) ≡ planOf (g .decorated) (optOf (g .id)) (stateOf (s .next) (s .default)) (eqb (getD aliases at 0) 1) .alias
+  pub outer : g .decorated ≡ true → g .outer ≡ planOf true (optOf (g .id)) (stateOf (s .next) (s .default)) (aliasIn (getD notes at 0)) .outer
+  pub inner : optOf (g .inner) ≡ planOf (g .decorated) (optOf (g .id)) (stateOf (s .next) (s .default)) (aliasIn (getD notes at 0)) .inner
+  pub alias : optOf (g .alias) ≡ planOf (g .decorated) (optOf (g .id)) (stateOf (s .next) (s .default)) (aliasIn (getD notes at 0)) .alias
   pub sizes : (g .id ≤ 67108864) × (g .inner ≤ 67108864) × (g .alias ≤ 67108864) × (g .decorated ≡ true → g .outer < 67108864)
 
 -- the same against the definition; n: the counter in front of the statement

@@ -43,8 +43,8 @@ unfoldable pub afterAt : List ℕ → ℕ → ℕ → Scope → Count → State
 afterAt ws at k a s = visitAt ws at k (aroundOf a) (stateIn s) .after
 
 -- what a walker of the k records at `at` asks, which is to write `len` words at `pos`
-pub record Asks (ws aliases : List ℕ) (at k n : ℕ) (c : ClassStack) (pos len : ℕ) : Type 0 where
-  pub ready : Ready ws aliases at n
+pub record Asks (ws notes : List ℕ) (at k n : ℕ) (c : ClassStack) (pos len : ℕ) : Type 0 where
+  pub ready : Ready ws notes at n
   pub stack : StackReady c
   pub deep : c .depth + nestAt ws at k ≤ capacity
   pub fit : pos + len < 67108864

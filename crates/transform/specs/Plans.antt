@@ -1,4 +1,4 @@
--- The plan of a class: what is found from the words, the table of aliases and the state behind the class is the definition's. Assumes nothing.
+-- The plan of a class: what is found from the words, the table of notes and the state behind the class is the definition's. Assumes nothing.
 use mathlib.Core.Path.{_≡_, refl, ap, sym, _∙_, subst}
 use mathlib.Core.Bool.{Bool, true, false, _&&_, cond}
 use mathlib.Core.Option.{Option, none, some}
@@ -198,9 +198,9 @@ module _ (m : Bool) (n d : ℕ) (g : ClassPlan) (room : n + 1 < 67108864) (few :
   }
 
 -- k: its elements
-pub plan-from : {ws aliases : List ℕ} {at : ℕ} {s : Count} {g : ClassPlan} (k : Trees) → k ≡ elementsOf (kidsAt ws (at + 1)) →
+pub plan-from : {ws notes : List ℕ} {at : ℕ} {s : Count} {g : ClassPlan} (k : Trees) → k ≡ elementsOf (kidsAt ws (at + 1)) →
     optOf (g .id) ≡ idOf (kidsAt ws (at + 1)) → g .decorated ≡ isDecorated (kidsAt ws (at + 1)) → g .private ≡ hasPrivateIn (kidsAt ws (at + 1)) → g .fixed ≡ hasStatic k → g .calls ≡ countCalled k →
-    FoundSymbols (eqb (getD aliases at 0) 1) (s .next) (s .default) g → PlanFrom ws aliases at s g
+    FoundSymbols (aliasIn (getD notes at 0)) (s .next) (s .default) g → PlanFrom ws notes at s g
 plan-from k e i d p x c f = record {
   id = i;
   decorated = d;
@@ -290,7 +290,7 @@ plan-search : (x : Bool) (id : Option ℕ) (t : State) (m k : Bool) → (x ≡ t
 plan-search true id t m k e = ap (planOf true id t) (e refl)
 plan-search false id t m k e = unfold planOf in refl
 
-module _ {ws aliases : List ℕ} {at n : ℕ} (f : Ready ws aliases at n) (h : at < length ws) (kind : labelAt ws at .kind ≡ 4) (live : isLive (takeF 1 (recordsAt ws (at + 1))) ≡ true)
+module _ {ws notes : List ℕ} {at n : ℕ} (f : Ready ws notes at n) (h : at < length ws) (kind : labelAt ws at .kind ≡ 4) (live : isLive (takeF 1 (recordsAt ws (at + 1))) ≡ true)
     (id : ℕ) (known : optOf id ≡ idOf (kidsAt ws (at + 1))) {r : Counted} (c : Counts ws (at + 1) 1 (record { live = true; id = id }) n 67108864 r) where
   -- the state behind the class's children
   end-state : atEnd ws at n ≡ stateOf (r .next) (r .default)
@@ -310,19 +310,19 @@ module _ {ws aliases : List ℕ} {at n : ℕ} (f : Ready ws aliases at n) (h : a
       subst (λ (m : ℕ). m ≤ 67108864) (number-of (r .default)) (below-le (r .next) (optOf (r .default)) (omega (arith, plan-next)) b)
 
   -- the table has rule 6's search
-  search : isDecorated (rk ws at) ≡ true → eqb (getD aliases at 0) 1 ≡ mentioned (idOf (rk ws at)) (els ws at n)
+  search : isDecorated (rk ws at) ≡ true → aliasIn (getD notes at 0) ≡ mentioned (idOf (rk ws at)) (els ws at n)
   unfolding rk
   search e =
       f .planned .right at n h kind live e (f .ids (at + 1) (class-is ws (f .whole) at h kind))
       ∙ ap (mentioned (idOf (kidsAt ws (at + 1)))) (elements-from ws (f .whole) at h kind n)
 
-  module _ {g : ClassPlan} (p : PlanFrom ws aliases at (record { next = r .next; default = r .default }) g) where
-    planned : planOf (g .decorated) (optOf (g .id)) (stateOf (r .next) (r .default)) (eqb (getD aliases at 0) 1) ≡ plan ws at n
+  module _ {g : ClassPlan} (p : PlanFrom ws notes at (record { next = r .next; default = r .default }) g) where
+    planned : planOf (g .decorated) (optOf (g .id)) (stateOf (r .next) (r .default)) (aliasIn (getD notes at 0)) ≡ plan ws at n
     unfolding plan
     planned =
         let ids : optOf (g .id) ≡ idOf (rk ws at) = unfold rk in p .id in
         let dec : g .decorated ≡ isDecorated (rk ws at) = unfold rk in p .decorated in
-        cc (ids, dec, sym end-state) ∙ plan-search (isDecorated (rk ws at)) (idOf (rk ws at)) (atEnd ws at n) (eqb (getD aliases at 0) 1) (mentioned (idOf (rk ws at)) (els ws at n)) search
+        cc (ids, dec, sym end-state) ∙ plan-search (isDecorated (rk ws at)) (idOf (rk ws at)) (atEnd ws at n) (aliasIn (getD notes at 0)) (mentioned (idOf (rk ws at)) (els ws at n)) search
 
     pub plans : Plans ws at n g
     plans = record {
@@ -331,7 +331,7 @@ module _ {ws aliases : List ℕ} {at n : ℕ} (f : Ready ws aliases at n) (h : a
       private = unfold rk in p .private;
       fixed = unfold rk in p .fixed;
       calls = p .calls ∙ (unfold rk in calls-queued ws (f .whole) at h kind n);
-      outer = λ e. p .outer e ∙ ap (λ (b : Bool). planOf b (optOf (g .id)) (stateOf (r .next) (r .default)) (eqb (getD aliases at 0) 1) .outer) (sym e) ∙ ap (λ (x : Plan). x .outer) planned;
+      outer = λ e. p .outer e ∙ ap (λ (b : Bool). planOf b (optOf (g .id)) (stateOf (r .next) (r .default)) (aliasIn (getD notes at 0)) .outer) (sym e) ∙ ap (λ (x : Plan). x .outer) planned;
       inner = p .inner ∙ ap (λ (x : Plan). x .inner) planned;
       alias = p .alias ∙ ap (λ (x : Plan). x .alias) planned;
       sizes = p .sizes;

@@ -58,9 +58,9 @@ module _ (ws : List ℕ) (at k : ℕ) (a : Scope) (s : Count) (m e : ℕ) (t : a
 
 -- ---- what a walker may ask further on
 
-module _ {ws aliases : List ℕ} {at k n : ℕ} {c : ClassStack} {pos len : ℕ} (f : Asks ws aliases at k n c pos len) where
+module _ {ws notes : List ℕ} {at k n : ℕ} {c : ClassStack} {pos len : ℕ} (f : Asks ws notes at k n c pos len) where
   -- of the i records behind the first j
-  pub asks-row : (a : Scope) (s : Count) (j i m e q l : ℕ) → s .next ≡ n → j + i ≤ k → afterAt ws at j a s ≡ stateOf m e → q + l < 67108864 → Asks ws aliases (endOf ws at j) i m c q l
+  pub asks-row : (a : Scope) (s : Count) (j i m e q l : ℕ) → s .next ≡ n → j + i ≤ k → afterAt ws at j a s ≡ stateOf m e → q + l < 67108864 → Asks ws notes (endOf ws at j) i m c q l
   asks-row a s j i m e q l z h t g = record {
     ready = ready-on (f .ready) (endOf ws at j) m (omega (arith, end-high ws at j, f .ready .inside)) (omega (arith, state-low ws at j a s m e t, z)) (omega (arith, state-high ws at j a s m e t, z));
     stack = f .stack;
@@ -69,7 +69,7 @@ module _ {ws aliases : List ℕ} {at k n : ℕ} {c : ClassStack} {pos len : ℕ}
   }
 
   -- of the children of the first record
-  pub asks-kids : (q l : ℕ) → k ≡ 1 → at < length ws → q + l < 67108864 → Asks ws aliases (at + 1) (arityAt ws at) n c q l
+  pub asks-kids : (q l : ℕ) → k ≡ 1 → at < length ws → q + l < 67108864 → Asks ws notes (at + 1) (arityAt ws at) n c q l
   asks-kids q l e h g = record {
     ready = ready-on (f .ready) (at + 1) n (omega arith) (omega arith) (omega arith);
     stack = f .stack;
@@ -78,7 +78,7 @@ module _ {ws aliases : List ℕ} {at k n : ℕ} {c : ClassStack} {pos len : ℕ}
   }
 
   -- the same with other words to write
-  pub asks-words : (q l : ℕ) → q + l < 67108864 → Asks ws aliases at k n c q l
+  pub asks-words : (q l : ℕ) → q + l < 67108864 → Asks ws notes at k n c q l
   asks-words q l g = record { ready = f .ready; stack = f .stack; deep = f .deep; fit = g }
 
 -- ---- rows

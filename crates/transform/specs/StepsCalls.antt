@@ -48,9 +48,9 @@ wrote-length {o} {at} {ws} w = ap length (w .list) ∙ length-overlay o at ws
 
 -- ---- what a walker may ask further on
 
-module _ {ws aliases : List ℕ} {at k n : ℕ} {c : ClassStack} {pos len : ℕ} (f : Asks ws aliases at k n c pos len) where
+module _ {ws notes : List ℕ} {at k n : ℕ} {c : ClassStack} {pos len : ℕ} (f : Asks ws notes at k n c pos len) where
   -- of the first record
-  asks-first : 1 ≤ k → Asks ws aliases at 1 n c pos len
+  asks-first : 1 ≤ k → Asks ws notes at 1 n c pos len
   asks-first h = record {
     ready = f .ready;
     stack = f .stack;
@@ -62,16 +62,16 @@ module _ {ws aliases : List ℕ} {at k n : ℕ} {c : ClassStack} {pos len : ℕ}
   }
 
   -- of the record behind the first j
-  pub asks-step : (a : Scope) (s : Count) (j q m e p l : ℕ) → s .next ≡ n → j < k → q ≡ endOf ws at j → afterAt ws at j a s ≡ stateOf m e → p + l < 67108864 → Asks ws aliases q 1 m c p l
-  asks-step a s j q m e p l z h x t g = subst (λ (i : ℕ). Asks ws aliases i 1 m c p l) (sym x) (asks-row f a s j 1 m e p l z (omega arith) t g)
+  pub asks-step : (a : Scope) (s : Count) (j q m e p l : ℕ) → s .next ≡ n → j < k → q ≡ endOf ws at j → afterAt ws at j a s ≡ stateOf m e → p + l < 67108864 → Asks ws notes q 1 m c p l
+  asks-step a s j q m e p l z h x t g = subst (λ (i : ℕ). Asks ws notes i 1 m c p l) (sym x) (asks-row f a s j 1 m e p l z (omega arith) t g)
 
 -- of the decorators of a record
-pub asks-marked : {ws aliases : List ℕ} {at n : ℕ} {c : ClassStack} {pos len : ℕ} → Asks ws aliases at 1 n c pos len →
-    (q l : ℕ) → at < length ws → Marked ws at → q + l < 67108864 → Asks ws aliases (at + 2) (arityAt ws (at + 1)) n c q l
-asks-marked {ws} {aliases} {at} {n} {c} f q l h m g =
+pub asks-marked : {ws notes : List ℕ} {at n : ℕ} {c : ClassStack} {pos len : ℕ} → Asks ws notes at 1 n c pos len →
+    (q l : ℕ) → at < length ws → Marked ws at → q + l < 67108864 → Asks ws notes (at + 2) (arityAt ws (at + 1)) n c q l
+asks-marked {ws} {notes} {at} {n} {c} f q l h m g =
     let two : at + 1 + 1 ≡ at + 2 = omega arith in
-    let x : Asks ws aliases (at + 1) 1 n c q l = asks-first (asks-kids f q l refl h g) (omega (arith, m .count)) in
-    subst (λ (p : ℕ). Asks ws aliases p (arityAt ws (at + 1)) n c q l) two (asks-kids x q l refl (m .place) g)
+    let x : Asks ws notes (at + 1) 1 n c q l = asks-first (asks-kids f q l refl h g) (omega (arith, m .count)) in
+    subst (λ (p : ℕ). Asks ws notes p (arityAt ws (at + 1)) n c q l) two (asks-kids x q l refl (m .place) g)
 
 -- ---- symbols are below the counter
 
@@ -85,7 +85,7 @@ unfolding Below
 below-none n = rw opt-none tt
 
 -- the id of a class statement's class
-pub below-id : {ws aliases : List ℕ} {at n : ℕ} → Ready ws aliases at n → at < length ws → labelAt ws at .kind ≡ 4 → (i m : ℕ) → optOf i ≡ idOf (rk ws at) → n ≤ m → Below m (optOf i)
+pub below-id : {ws notes : List ℕ} {at n : ℕ} → Ready ws notes at n → at < length ws → labelAt ws at .kind ≡ 4 → (i m : ℕ) → optOf i ≡ idOf (rk ws at) → n ≤ m → Below m (optOf i)
 below-id {ws} {at = at} {n = n} f h kind i m e l =
     let b : Below n (idOf (rk ws at)) = unfold rk in f .ids (at + 1) (class-kind ws (f .whole) at h kind) in
     below-more n m (optOf i) l (subst (Below n) (sym e) b)
@@ -503,7 +503,7 @@ module _ (ws : List ℕ) (whole : Fits (module′ ∷ []) (recordsAt ws 0)) (at 
         pub parameters-kind : labelAt ws (r .at) .kind ≡ 36
         parameters-kind = ap (λ (q : ℕ). labelAt ws q .kind) third ∙ called .kind
 
-        pub asks-parameters : {aliases : List ℕ} {pos len : ℕ} → Asks ws aliases at 1 (s .next) c pos len → (q l : ℕ) → q + l < 67108864 → Asks ws aliases (r .at) 1 (r .next) c q l
+        pub asks-parameters : {notes : List ℕ} {pos len : ℕ} → Asks ws notes at 1 (s .next) c pos len → (q l : ℕ) → q + l < 67108864 → Asks ws notes (r .at) 1 (r .next) c q l
         asks-parameters f q l g =
             asks-step (asks-kids f q l refl h g) a s 2 (r .at) (r .next) (r .default) q l refl (omega (arith, called .keyed .marked .count, called .keyed .count, called .count)) (k .place) (counts-after ws (at + 1) 2 a s k) g
 
@@ -554,7 +554,7 @@ arity-few ws at whole h =
     let e : endOf ws (at + 1) (arityAt ws at) ≡ at + 1 + size (kidsAt ws at) = unfold endOf kidsAt in refl in
     omega (arith, kids-count ws whole at h, count-size (kidsAt ws at), e, end-high ws (at + 1) (arityAt ws at))
 
-module _ {ws aliases : List ℕ} {at n : ℕ} {c : ClassStack} {pos len : ℕ} (f : Asks ws aliases at 1 n c pos len) (h : at < length ws) (a : Scope) (s : Count) (z : s .next ≡ n) (i q p m e x : ℕ) {o o₁ : List ℕ} where
+module _ {ws notes : List ℕ} {at n : ℕ} {c : ClassStack} {pos len : ℕ} (f : Asks ws notes at 1 n c pos len) (h : at < length ws) (a : Scope) (s : Count) (z : s .next ≡ n) (i q p m e x : ℕ) {o o₁ : List ℕ} where
   -- the next decorator of a parameter, under 23:j at p
   module _ (kind : labelAt ws at .kind ≡ 37) (j : ℕ) (g : i < arityAt ws (at + 1)) (l : len ≡ size (indexed j (hereAt ws (at + 2) (arityAt ws (at + 1)) a s)))
       (y : Gives (indexed j) ws (at + 2) i a s c o pos o₁ (record { at = q; pos = p; next = m; default = e; count = x })) where
@@ -570,7 +570,7 @@ module _ {ws aliases : List ℕ} {at n : ℕ} {c : ClassStack} {pos len : ℕ} (
           decorator-size ws (f .ready .whole) c at i q parameter-is g (y .moved .place) j a (record { next = m; default = e }),
         )
 
-    pub decorator-asks : (p₁ : ℕ) → p₁ ≡ p + 1 → Asks ws aliases q 1 m c p₁ (size (hereAt ws q 1 a (record { next = m; default = e }))) × (q < length ws)
+    pub decorator-asks : (p₁ : ℕ) → p₁ ≡ p + 1 → Asks ws notes q 1 m c p₁ (size (hereAt ws q 1 a (record { next = m; default = e }))) × (q < length ws)
     decorator-asks p₁ w = (
       asks-step (asks-marked f pos len h parameter-is (f .fit)) a s i q m e p₁ (size (hereAt ws q 1 a (record { next = m; default = e }))) z g (y .moved .place) (y .moved .state) (omega (arith, w, decorator-fit, f .fit)),
       decorator-place ws (f .ready .whole) c at i q parameter-is g (y .moved .place),
@@ -585,7 +585,7 @@ module _ {ws aliases : List ℕ} {at n : ℕ} {c : ClassStack} {pos len : ℕ} (
     pub parameter-fit : p + size (ofParameters i (hereAt ws q 1 a (record { next = m; default = e }))) ≤ pos + len
     parameter-fit = omega (arith, l, give-fit ofParameters parameters-none parameters-append ws (at + 1) a s c i (arityAt ws at) q p m e x g y .0, ap (λ (b : Trees). size (ofParameters 0 b)) (here-kids ws at a s))
 
-    pub parameter-asks : Asks ws aliases q 1 m c p (size (indexed i (hereAt ws (q + 2) (arityAt ws (q + 1)) a (record { next = m; default = e })))) × (q < length ws) × (labelAt ws q .kind ≡ 37) × (i < 67108864)
+    pub parameter-asks : Asks ws notes q 1 m c p (size (indexed i (hereAt ws (q + 2) (arityAt ws (q + 1)) a (record { next = m; default = e })))) × (q < length ws) × (labelAt ws q .kind ≡ 37) × (i < 67108864)
     parameter-asks =
         let b : ofParameters i (hereAt ws q 1 a (record { next = m; default = e })) ≡ indexed i (hereAt ws (q + 2) (arityAt ws (q + 1)) a (record { next = m; default = e })) =
         parameter-given ws (f .ready .whole) c q (nth-parameter .0) (nth-parameter .1) i a (record { next = m; default = e }) in (

@@ -148,14 +148,14 @@ module _ {ws : List ℕ} {at n : ℕ} {g : ClassPlan} (p : Plans ws at n g) (c :
 
 -- ---- further on in a row, by place
 
-pub asks-place : {ws aliases : List ℕ} {at k n : ℕ} {c : ClassStack} {pos len : ℕ} → Asks ws aliases at k n c pos len → (a : Scope) (s : Count) (j i q m e p l : ℕ) → s .next ≡ n → j + i ≤ k →
-    q ≡ endOf ws at j → afterAt ws at j a s ≡ stateOf m e → p + l < 67108864 → Asks ws aliases q i m c p l
-asks-place {ws} {aliases} {c = c} f a s j i q m e p l z h qe t g = subst (λ (x : ℕ). Asks ws aliases x i m c p l) (sym qe) (asks-row f a s j i m e p l z h t g)
+pub asks-place : {ws notes : List ℕ} {at k n : ℕ} {c : ClassStack} {pos len : ℕ} → Asks ws notes at k n c pos len → (a : Scope) (s : Count) (j i q m e p l : ℕ) → s .next ≡ n → j + i ≤ k →
+    q ≡ endOf ws at j → afterAt ws at j a s ≡ stateOf m e → p + l < 67108864 → Asks ws notes q i m c p l
+asks-place {ws} {notes} {c = c} f a s j i q m e p l z h qe t g = subst (λ (x : ℕ). Asks ws notes x i m c p l) (sym qe) (asks-row f a s j i m e p l z h t g)
 
-pub asks-first : {ws aliases : List ℕ} {at k n : ℕ} {c : ClassStack} {pos len : ℕ} → Asks ws aliases at k n c pos len → (a : Scope) (s : Count) (j p l : ℕ) → s .next ≡ n → j ≤ k →
-    p + l < 67108864 → Asks ws aliases at j n c p l
-asks-first {ws} {aliases} {at} {k} {n} {c} f a s j p l z h g =
-    subst (λ (m : ℕ). Asks ws aliases at j m c p l) z
+pub asks-first : {ws notes : List ℕ} {at k n : ℕ} {c : ClassStack} {pos len : ℕ} → Asks ws notes at k n c pos len → (a : Scope) (s : Count) (j p l : ℕ) → s .next ≡ n → j ≤ k →
+    p + l < 67108864 → Asks ws notes at j n c p l
+asks-first {ws} {notes} {at} {k} {n} {c} f a s j p l z h g =
+    subst (λ (m : ℕ). Asks ws notes at j m c p l) z
     (asks-place f a s 0 j at (s .next) (s .default) p l z (omega arith) (sym (end-none ws at)) (after-none ws at a s ∙ (unfold stateIn in refl)) g)
 
 -- ---- the first constructor
@@ -197,7 +197,7 @@ wordsFrom ws b j i a c t = written (wordBelow c) (visitAt ws (endOf ws (endOf ws
 
 -- ---- the elements of the body at b
 
-module _ {ws aliases : List ℕ} {b : ℕ} {c : ClassStack} {pos : ℕ} (g : ClassPlan) (s : Count) (f : Asks ws aliases b 1 (s .next) c pos (length (elementsBy g c ws b s))) (h : b < length ws)
+module _ {ws notes : List ℕ} {b : ℕ} {c : ClassStack} {pos : ℕ} (g : ClassPlan) (s : Count) (f : Asks ws notes b 1 (s .next) c pos (length (elementsBy g c ws b s))) (h : b < length ws)
     (kind : labelAt ws b .kind ≡ 29) where
   -- none of them changes
   pub elements-plain : g .decorated ≡ false → elementsBy g c ws b s ≡ wordsOf c (kidsHere ws b (scopeOf g) s)
@@ -216,9 +216,9 @@ module _ {ws aliases : List ℕ} {b : ℕ} {c : ClassStack} {pos : ℕ} (g : Cla
     row-here : elementsBy g c ws b s ≡ wordsOf c (hereAt ws (b + 1) k (scopeOf g) s)
     row-here = x ∙ ap (wordsOf c) (sym (here-kids ws b (scopeOf g) s) ∙ ap (λ (i : ℕ). hereAt ws (b + 1) i (scopeOf g) s) (sym ke))
 
-    pub elements-asks : Asks ws aliases (b + 1) k (s .next) c pos (size (hereAt ws (b + 1) k (scopeOf g) s))
+    pub elements-asks : Asks ws notes (b + 1) k (s .next) c pos (size (hereAt ws (b + 1) k (scopeOf g) s))
     elements-asks =
-        subst (λ (i : ℕ). Asks ws aliases (b + 1) i (s .next) c pos (size (hereAt ws (b + 1) k (scopeOf g) s))) (sym ke)
+        subst (λ (i : ℕ). Asks ws notes (b + 1) i (s .next) c pos (size (hereAt ws (b + 1) k (scopeOf g) s))) (sym ke)
         (asks-kids f pos (size (hereAt ws (b + 1) k (scopeOf g) s)) refl h (omega (arith, f .fit, ap length row-here, length-words c (hereAt ws (b + 1) k (scopeOf g) s))))
 
     pub elements-wrote : {o o′ : List ℕ} {r : Went} → Emitted ws (b + 1) k (scopeOf g) s c o pos o′ r → Wrote o pos (elementsBy g c ws b s) o′ (r .pos)
@@ -226,8 +226,8 @@ module _ {ws aliases : List ℕ} {b : ℕ} {c : ClassStack} {pos : ℕ} (g : Cla
 
   -- the j-th is the first constructor; the walk stands there at q, with the state m, e
   module _ (dec : g .decorated ≡ true) (k j : ℕ) (ke : k ≡ arityAt ws b) (first : FirstAt ws b j) where
-    row-asks : (p l : ℕ) → p + l < 67108864 → Asks ws aliases (b + 1) k (s .next) c p l
-    row-asks p l z = subst (λ (i : ℕ). Asks ws aliases (b + 1) i (s .next) c p l) (sym ke) (asks-kids f p l refl h z)
+    row-asks : (p l : ℕ) → p + l < 67108864 → Asks ws notes (b + 1) k (s .next) c p l
+    row-asks p l z = subst (λ (i : ℕ). Asks ws notes (b + 1) i (s .next) c p l) (sym ke) (asks-kids f p l refl h z)
 
     parts : elementsBy g c ws b s ≡
         wordsOf c (hereAt ws (b + 1) j (scopeOf g) s) ++
@@ -268,7 +268,7 @@ module _ {ws aliases : List ℕ} {b : ℕ} {c : ClassStack} {pos : ℕ} (g : Cla
         end-both = qe₂ ∙ sym (end-more′ ws (b + 1) (scopeOf g) s j 1 q m e qe t)
 
     -- before it
-    pub before-asks : Asks ws aliases (b + 1) j (s .next) c pos (size (hereAt ws (b + 1) j (scopeOf g) s))
+    pub before-asks : Asks ws notes (b + 1) j (s .next) c pos (size (hereAt ws (b + 1) j (scopeOf g) s))
     before-asks =
         let x : List ℕ = wordsOf c (hereAt ws (b + 1) j (scopeOf g) s) in
         let y : List ℕ =
@@ -278,7 +278,7 @@ module _ {ws aliases : List ℕ} {b : ℕ} {c : ClassStack} {pos : ℕ} (g : Cla
         (omega (arith, f .fit, ap length parts, length-append x y, length-words c (hereAt ws (b + 1) j (scopeOf g) s)))
 
     module _ {o o₁ : List ℕ} {r : Went} (y : Emitted ws (b + 1) j (scopeOf g) s c o pos o₁ r) where
-      pub constructor-asks : Asks ws aliases (r .at) 1 (r .next) c (r .pos) (length (memberWords ws (r .at) (scopeOf g) (record { next = r .next; default = r .default }) c))
+      pub constructor-asks : Asks ws notes (r .at) 1 (r .next) c (r .pos) (length (memberWords ws (r .at) (scopeOf g) (record { next = r .next; default = r .default }) c))
       constructor-asks =
           asks-place (row-asks pos 0 (omega (arith, f .fit))) (scopeOf g) s j 1 (r .at) (r .next) (r .default) (r .pos) _ refl (omega (arith, ke, first .most)) (y .moved .place) (y .moved .state)
           (omega (arith, f .fit, lengths (r .at) (r .next) (r .default) (y .moved .place) (y .moved .state), y .moved .wrote .end, length-words c (hereAt ws (b + 1) j (scopeOf g) s)))
@@ -293,7 +293,7 @@ module _ {ws aliases : List ℕ} {b : ℕ} {c : ClassStack} {pos : ℕ} (g : Cla
         behind-words : wordsFrom ws b j (k - j - 1) (scopeOf g) c (stateOf (r .next) (r .default)) ≡ wordsOf c (hereAt ws (r₂ .at) (k - j - 1) (scopeOf g) (record { next = r₂ .next; default = r₂ .default }))
         behind-words = from-here (r .at) (r .next) (r .default) (y .moved .place) (y .moved .state) (r₂ .at) (r₂ .next) (r₂ .default) (z .place) (z .state)
 
-        pub behind-asks : Asks ws aliases (r₂ .at) (k - j - 1) (r₂ .next) c (r₂ .pos) (size (hereAt ws (r₂ .at) (k - j - 1) (scopeOf g) (record { next = r₂ .next; default = r₂ .default })))
+        pub behind-asks : Asks ws notes (r₂ .at) (k - j - 1) (r₂ .next) c (r₂ .pos) (size (hereAt ws (r₂ .at) (k - j - 1) (scopeOf g) (record { next = r₂ .next; default = r₂ .default })))
         behind-asks =
             let x : Trees = hereAt ws (r₂ .at) (k - j - 1) (scopeOf g) (record { next = r₂ .next; default = r₂ .default }) in
             asks-place (row-asks pos 0 (omega (arith, f .fit))) (scopeOf g) s (j + 1) (k - j - 1) (r₂ .at) (r₂ .next) (r₂ .default) (r₂ .pos) (size x) refl (omega (arith, ke, first .most))
@@ -321,7 +321,7 @@ module _ {ws aliases : List ℕ} {b : ℕ} {c : ClassStack} {pos : ℕ} (g : Cla
 
 -- ---- the decorators of the first constructor's parameters in the body at b
 
-module _ {ws aliases : List ℕ} {b : ℕ} {c : ClassStack} {pos : ℕ} (g : ClassPlan) (s : Count) (f : Asks ws aliases b 1 (s .next) c pos (size (firstBy g c ws b s))) (h : b < length ws)
+module _ {ws notes : List ℕ} {b : ℕ} {c : ClassStack} {pos : ℕ} (g : ClassPlan) (s : Count) (f : Asks ws notes b 1 (s .next) c pos (size (firstBy g c ws b s))) (h : b < length ws)
     (kind : labelAt ws b .kind ≡ 29) where
   pub entries-none : hasConstructor (kidsAt ws b) ≡ false → (o : List ℕ) → Wrote o pos (wordsOf c (firstBy g c ws b s)) o pos × (0 ≡ countF (firstBy g c ws b s))
   entries-none e o =
@@ -334,7 +334,7 @@ module _ {ws aliases : List ℕ} {b : ℕ} {c : ClassStack} {pos : ℕ} (g : Cla
     there : (r .at < length ws) × (labelAt ws (r .at) .kind ≡ 30)
     there = (omega (arith, y .place, first .inside), ap (λ (i : ℕ). labelAt ws i .kind) (y .place) ∙ constructor-kind _ (first .there))
 
-    pub entries-kids : (q l : ℕ) → q + l < 67108864 → Asks ws aliases (r .at + 1) (arityAt ws (r .at)) (r .next) c q l
+    pub entries-kids : (q l : ℕ) → q + l < 67108864 → Asks ws notes (r .at + 1) (arityAt ws (r .at)) (r .next) c q l
     entries-kids q l z =
         asks-kids (asks-place (asks-kids f q l refl h z) (scopeOf g) s j 1 (r .at) (r .next) (r .default) q l refl (omega (arith, first .most)) (y .place) (counts-after ws (b + 1) j (scopeOf g) s y) z)
         q l refl (there .0) z
@@ -357,7 +357,7 @@ module _ {ws aliases : List ℕ} {b : ℕ} {c : ClassStack} {pos : ℕ} (g : Cla
           first-entries ws (f .ready .whole) b h kind (aroundOf (scopeOf g)) (stateIn s) j (first .most) (first .unmet) (first .there)
           ∙ cc (y .place, y .state, z .place, z .state)
 
-      pub entries-asks : Asks ws aliases (r₂ .at) 1 (r₂ .next) c pos (size (ofParameters 0 (kidsHere ws (r₂ .at) (scopeOf g) (record { next = r₂ .next; default = r₂ .default }))))
+      pub entries-asks : Asks ws notes (r₂ .at) 1 (r₂ .next) c pos (size (ofParameters 0 (kidsHere ws (r₂ .at) (scopeOf g) (record { next = r₂ .next; default = r₂ .default }))))
       entries-asks =
           let e : size (firstBy g c ws b s) ≡ size (ofParameters 0 (kidsHere ws (r₂ .at) (scopeOf g) (record { next = r₂ .next; default = r₂ .default }))) = ap size entries-are in
           let l : pos + size (ofParameters 0 (kidsHere ws (r₂ .at) (scopeOf g) (record { next = r₂ .next; default = r₂ .default }))) < 67108864 = omega (arith, f .fit, e) in
@@ -410,7 +410,7 @@ pub stack-outer : (g : ClassPlan) (x : Bool) → g .decorated ≡ x → (g .deco
 stack-outer g true e o n = inl (o e)
 stack-outer g false e o n = inr (opt-missing (g .alias) (n e))
 
-module _ {ws aliases : List ℕ} {b : ℕ} {c : ClassStack} {pos : ℕ} (g : ClassPlan) (s : Count) (f : Asks ws aliases b 1 (s .next) c pos (length (bodyBy g c ws b s)))
+module _ {ws notes : List ℕ} {b : ℕ} {c : ClassStack} {pos : ℕ} (g : ClassPlan) (s : Count) (f : Asks ws notes b 1 (s .next) c pos (length (bodyBy g c ws b s)))
     (r : ClassStack) (re : (k p : ℕ) → bodyWord g c k p ≡ wordBelow r k p) where
   body-split : bodyBy g c ws b s ≡ wordBelow c 29 (arityAt ws b + (one (frontOf g) + one (blockOf g))) ∷ (frontWords g c ++ (elementsBy g r ws b s ++ blockBy g c ws b s))
   unfolding bodyBy elementsBy wordsOf
@@ -430,7 +430,7 @@ module _ {ws aliases : List ℕ} {b : ℕ} {c : ClassStack} {pos : ℕ} (g : Cla
       block-is : blockBy g c ws b s ≡ wordBelow c 33 (g .calls) ∷ wordsOf c (callsAt ws (b + 1) (arityAt ws b) (scopeOf g) s)
       block-is = unfold blockBy in rw e
 
-  pub stack-asks : (q : ℕ) → StackReady r → r .depth ≤ c .depth + 1 → c .depth + 1 + nestAt ws b 1 ≤ capacity → q ≡ pos + 1 + length (frontWords g c) → Asks ws aliases b 1 (s .next) r q (length (elementsBy g r ws b s))
+  pub stack-asks : (q : ℕ) → StackReady r → r .depth ≤ c .depth + 1 → c .depth + 1 + nestAt ws b 1 ≤ capacity → q ≡ pos + 1 + length (frontWords g c) → Asks ws notes b 1 (s .next) r q (length (elementsBy g r ws b s))
   stack-asks q t d n e = record { ready = f .ready; stack = t; deep = omega arith; fit = omega (arith, body-room) }
 
   -- without and with a block behind the elements
@@ -469,12 +469,12 @@ flags-few ws whole at h kind =
     let t : Standing ws at = standing-at ws (module′ ∷ []) whole at h in
     flags-rule (t .slot .context) (labelAt ws at .payload) (ap (λ (k : ℕ). holds (rowOf k .rule) (t .slot .context) (labelAt ws at .payload)) (sym kind) ∙ allowed-row (t .slot) _ _ (t .own .grammar) .1)
 
-module _ {ws aliases : List ℕ} {at n : ℕ} {c : ClassStack} {pos len : ℕ} (f : Asks ws aliases at 1 n c pos len) (h : at < length ws) (kind : labelAt ws at .kind ≡ 4) where
+module _ {ws notes : List ℕ} {at n : ℕ} {c : ClassStack} {pos len : ℕ} (f : Asks ws notes at 1 n c pos len) (h : at < length ws) (kind : labelAt ws at .kind ≡ 4) where
   -- its children
-  pub inside-asks : (q l : ℕ) → q + l < 67108864 → Asks ws aliases (at + 2) (arityAt ws (at + 1)) n c q l
+  pub inside-asks : (q l : ℕ) → q + l < 67108864 → Asks ws notes (at + 2) (arityAt ws (at + 1)) n c q l
   inside-asks q l z =
       let e : at + 1 + 1 ≡ at + 2 = omega arith in
-      subst (λ (i : ℕ). Asks ws aliases i (arityAt ws (at + 1)) n c q l) e
+      subst (λ (i : ℕ). Asks ws notes i (arityAt ws (at + 1)) n c q l) e
       (asks-kids (asks-kids f q l refl h z) q l (class-one ws (f .ready .whole) at h kind) (class-in ws (f .ready .whole) at h kind) z)
 
   inside-deep : c .depth + 1 + nestAt ws (at + 2) (arityAt ws (at + 1)) ≤ capacity
@@ -515,7 +515,7 @@ module _ {ws aliases : List ℕ} {at n : ℕ} {c : ClassStack} {pos len : ℕ} (
           let v : afterAt ws (at + 2) k (scopeOf g) (record { next = n; default = 67108864 }) ≡ visitAt ws (at + 2) k (aroundOf (scopeOf g)) (stateIn (record { next = n; default = 67108864 })) .after = unfold afterAt in refl in
           u ∙ sym heritage-after ∙ v ∙ cc (scope-plan p c, start-plan p c, ke)
 
-      heritage-asks : (i q l : ℕ) → i ≡ bit2 (labelAt ws (at + 1) .payload) → q + l < 67108864 → Asks ws aliases (r .at) i (r .next) c q l
+      heritage-asks : (i q l : ℕ) → i ≡ bit2 (labelAt ws (at + 1) .payload) → q + l < 67108864 → Asks ws notes (r .at) i (r .next) c q l
       heritage-asks i q l ie z =
           asks-place (inside-asks q l z) (scopeOf g) (record { next = n; default = 67108864 }) k i (r .at) (r .next) (r .default) q l refl (omega (arith, parts-count)) (y .place) heritage-after z
 
@@ -541,7 +541,7 @@ module _ {ws aliases : List ℕ} {at n : ℕ} {c : ClassStack} {pos len : ℕ} (
           let u : stateIn s ≡ stateOf (s .next) (s .default) = unfold stateIn in refl in
           v ∙ cc (scope-plan p c, start-plan p c, body-after ws (f .ready .whole) at h kind n, se, u)
 
-      body-asks : (q l : ℕ) → q + l < 67108864 → Asks ws aliases b 1 (s .next) c q l
+      body-asks : (q l : ℕ) → q + l < 67108864 → Asks ws notes b 1 (s .next) c q l
       body-asks q l z =
           asks-place (inside-asks q l z) (scopeOf g) (record { next = n; default = 67108864 }) (arityAt ws (at + 1) - 1) 1 b (s .next) (s .default) q l refl (omega (arith, parts-count))
           (be ∙ sym (body-behind ws (f .ready .whole) at h kind)) body-state z
@@ -577,7 +577,7 @@ module _ {ws aliases : List ℕ} {at n : ℕ} {c : ClassStack} {pos len : ℕ} (
           counts-default y (below-none n)
 
 -- the class as it stays: its words, its id and its heritage, its body; x: its flags
-module _ {ws aliases : List ℕ} {at n : ℕ} {c : ClassStack} {pos : ℕ} (f : Asks ws aliases at 1 n c pos (length (classWords ws at n (wordBelow c)))) (h : at < length ws) (kind : labelAt ws at .kind ≡ 4)
+module _ {ws notes : List ℕ} {at n : ℕ} {c : ClassStack} {pos : ℕ} (f : Asks ws notes at 1 n c pos (length (classWords ws at n (wordBelow c)))) (h : at < length ws) (kind : labelAt ws at .kind ≡ 4)
     {g : ClassPlan} (p : Plans ws at n g) (x : ℕ) (xe : x ≡ labelAt ws (at + 1) .payload) where
   id-flag : 1 + x % 2 ≡ 1 + bit0 (labelAt ws (at + 1) .payload)
   unfolding bit0
@@ -605,7 +605,7 @@ module _ {ws aliases : List ℕ} {at n : ℕ} {c : ClassStack} {pos : ℕ} (f : 
           length-words c u,
         )
 
-    pub class-heritage : Asks ws aliases (r .at) (x / 4 % 2) (r .next) c p₁ (size (hereAt ws (r .at) (x / 4 % 2) (scopeOf g) (record { next = r .next; default = r .default })))
+    pub class-heritage : Asks ws notes (r .at) (x / 4 % 2) (r .next) c p₁ (size (hereAt ws (r .at) (x / 4 % 2) (scopeOf g) (record { next = r .next; default = r .default })))
     class-heritage = heritage-asks f h kind p id-flag y (x / 4 % 2) p₁ _ heritage-flag (omega (arith, f .fit, w₁ .end, parts-length))
 
     module _ {o₂ : List ℕ} {q : Went} (z : Emitted ws (r .at) (x / 4 % 2) (scopeOf g) (record { next = r .next; default = r .default }) c o₁ p₁ o₂ q) where
@@ -618,7 +618,7 @@ module _ {ws aliases : List ℕ} {at n : ℕ} {c : ClassStack} {pos : ℕ} (f : 
       body-here : bodyBy g c ws (q .at) (record { next = q .next; default = q .default }) ≡ bodyWords ws at n (wordBelow c)
       body-here = body-plan p c (q .at) (record { next = q .next; default = q .default }) class-place class-state
 
-      pub class-body-asks : Asks ws aliases (q .at) 1 (q .next) c (q .pos) (length (bodyBy g c ws (q .at) (record { next = q .next; default = q .default })))
+      pub class-body-asks : Asks ws notes (q .at) 1 (q .next) c (q .pos) (length (bodyBy g c ws (q .at) (record { next = q .next; default = q .default })))
       class-body-asks =
           let u : Trees = hereAt ws (r .at) (x / 4 % 2) (scopeOf g) (record { next = r .next; default = r .default }) in
           body-asks f h kind p (q .at) (record { next = q .next; default = q .default }) class-place class-state (q .pos) _
@@ -631,7 +631,7 @@ module _ {ws aliases : List ℕ} {at n : ℕ} {c : ClassStack} {pos : ℕ} (f : 
 
 -- ---- rule 7: the class assignment
 
-module _ {ws aliases : List ℕ} {at n : ℕ} {c : ClassStack} {pos : ℕ} {g : ClassPlan} {b : ℕ} (s : Count) (f : Asks ws aliases at 1 n c pos (length (assignmentBy g c ws (ds ws at n) b s))) (h : at < length ws)
+module _ {ws notes : List ℕ} {at n : ℕ} {c : ClassStack} {pos : ℕ} {g : ClassPlan} {b : ℕ} (s : Count) (f : Asks ws notes at 1 n c pos (length (assignmentBy g c ws (ds ws at n) b s))) (h : at < length ws)
     (kind : labelAt ws at .kind ≡ 4) (p : Plans ws at n g) (be : b ≡ bodyAt ws at) (se : stateIn s ≡ atBody ws at n) where
   decorators-in : at + 2 < length ws
   decorators-in = kind-within ws (at + 2) 27 (decorators-are ws (f .ready .whole) at h kind)
@@ -662,13 +662,13 @@ module _ {ws aliases : List ℕ} {at n : ℕ} {c : ClassStack} {pos : ℕ} {g : 
     ds-here : hereAt ws (at + 3) k (scopeOf g) (record { next = n; default = 67108864 }) ≡ ds ws at n
     ds-here = ap (λ (i : ℕ). hereAt ws (at + 3) i (scopeOf g) (record { next = n; default = 67108864 })) ke ∙ ds-plan p c
 
-    pub decorators-asks : (q : ℕ) → q ≡ pos + length (assignWords g c) → Asks ws aliases (at + 3) k n c (q + 1) (size (hereAt ws (at + 3) k (scopeOf g) (record { next = n; default = 67108864 })))
+    pub decorators-asks : (q : ℕ) → q ≡ pos + length (assignWords g c) → Asks ws notes (at + 3) k n c (q + 1) (size (hereAt ws (at + 3) k (scopeOf g) (record { next = n; default = 67108864 })))
     decorators-asks q qe =
         let t : Trees = hereAt ws (at + 3) k (scopeOf g) (record { next = n; default = 67108864 }) in
         let z : q + 1 + size t < 67108864 = omega (arith, f .fit, assignment-length, ap size ds-here) in
         let e : at + 2 + 1 ≡ at + 3 = omega arith in
-        subst (λ (i : ℕ). Asks ws aliases (at + 3) i n c (q + 1) (size t)) (sym ke)
-        (subst (λ (i : ℕ). Asks ws aliases i (arityAt ws (at + 2)) n c (q + 1) (size t)) e
+        subst (λ (i : ℕ). Asks ws notes (at + 3) i n c (q + 1) (size t)) (sym ke)
+        (subst (λ (i : ℕ). Asks ws notes i (arityAt ws (at + 2)) n c (q + 1) (size t)) e
         (asks-kids (asks-first (inside-asks f h kind (q + 1) (size t) z) (scopeOf g) (record { next = n; default = 67108864 }) 1 (q + 1) (size t) refl (class-parts f h kind) z) (q + 1) (size t) refl decorators-in z))
 
     module _ {o o₁ o₂ : List ℕ} {p₁ : ℕ} {q : Went} (w₁ : Wrote o pos (assignWords g c) o₁ p₁) (w₂ : Emitted ws (at + 3) k (scopeOf g) (record { next = n; default = 67108864 }) c o₁ (p₁ + 1) o₂ q)
@@ -684,7 +684,7 @@ module _ {ws aliases : List ℕ} {at n : ℕ} {c : ClassStack} {pos : ℕ} {g : 
       entries-room =
           omega (arith, f .fit, assignment-length, w₁ .end, w₂ .moved .wrote .end, length-words c (hereAt ws (at + 3) k (scopeOf g) (record { next = n; default = 67108864 })), ds-size, ap size first-same)
 
-      pub assignment-entries : StackReady r → r .depth ≤ c .depth + 1 → Asks ws aliases b 1 (s .next) r (q .pos) (size (firstBy g r ws b s))
+      pub assignment-entries : StackReady r → r .depth ≤ c .depth + 1 → Asks ws notes b 1 (s .next) r (q .pos) (size (firstBy g r ws b s))
       assignment-entries t d = record {
         ready = body-asks f h kind p b s be se 0 0 (omega arith) .ready;
         stack = t;
@@ -724,7 +724,7 @@ module _ {ws aliases : List ℕ} {at n : ℕ} {c : ClassStack} {pos : ℕ} {g : 
 
 -- ---- rule 10: what stands behind the statement
 
-module _ {ws aliases : List ℕ} {at n : ℕ} {c : ClassStack} (f : Asks ws aliases at 1 n c 0 (length (queueWords ws at n (wordBelow c)))) (h : at < length ws) (kind : labelAt ws at .kind ≡ 4)
+module _ {ws notes : List ℕ} {at n : ℕ} {c : ClassStack} (f : Asks ws notes at 1 n c 0 (length (queueWords ws at n (wordBelow c)))) (h : at < length ws) (kind : labelAt ws at .kind ≡ 4)
     {g : ClassPlan} (p : Plans ws at n g) where
   -- nothing
   silent-queue : g .private ≡ true → (queueWords ws at n (wordBelow c) ≡ []) × (0 ≡ queueCount ws at n)
@@ -768,11 +768,11 @@ module _ {ws aliases : List ℕ} {at n : ℕ} {c : ClassStack} (f : Asks ws alia
         let x : List ℕ = cond (g .decorated) (assignmentBy g c ws (ds ws at n) b s ++ exportWords (wordBelow c) (labelAt ws at .payload) (g .outer)) [] in
         omega (arith, f .fit, calls-size, ap length (queue-words (g .decorated) refl), length-append (wordsOf c (queue ws at n)) x)
 
-    pub queue-calls : Asks ws aliases (b + 1) i (s .next) c 0 (size (callsAt ws (b + 1) i (scopeOf g) s))
+    pub queue-calls : Asks ws notes (b + 1) i (s .next) c 0 (size (callsAt ws (b + 1) i (scopeOf g) s))
     queue-calls =
         let t : ℕ = size (callsAt ws (b + 1) i (scopeOf g) s) in
         let z : 0 + t < 67108864 = omega (arith, calls-fit) in
-        subst (λ (j : ℕ). Asks ws aliases (b + 1) j (s .next) c 0 t) (sym ie) (asks-kids (body-asks f h kind p b s be se 0 t z) 0 t refl (body-inside f h kind p b s be se) z)
+        subst (λ (j : ℕ). Asks ws notes (b + 1) j (s .next) c 0 t) (sym ie) (asks-kids (body-asks f h kind p b s be se 0 t z) 0 t refl (body-inside f h kind p b s be se) z)
 
     module _ {o o₁ : List ℕ} {q : Went} (w₁ : Queues ws (b + 1) i (scopeOf g) s c o 0 o₁ q) where
       calls-wrote : Wrote o 0 (wordsOf c (queue ws at n)) o₁ (q .pos)
@@ -793,7 +793,7 @@ module _ {ws aliases : List ℕ} {at n : ℕ} {c : ClassStack} (f : Asks ws alia
             let y : List ℕ = exportWords (wordBelow c) (labelAt ws at .payload) (g .outer) in
             omega (arith, ap length (queue-words true dec), length-append (wordsOf c (queue ws at n)) (x ++ y), length-append x y)
 
-        pub queue-assignment : Asks ws aliases at 1 n c (q .pos) (length (assignmentBy g c ws (ds ws at n) b s))
+        pub queue-assignment : Asks ws notes at 1 n c (q .pos) (length (assignmentBy g c ws (ds ws at n) b s))
         queue-assignment = asks-words f (q .pos) _ (omega (arith, f .fit, queue-length, calls-wrote .end))
 
         pub calls-few : q .count < 67108864
@@ -813,7 +813,7 @@ module _ {ws aliases : List ℕ} {at n : ℕ} {c : ClassStack} (f : Asks ws alia
 
 -- ---- the statement at `at`
 
-module _ {ws aliases : List ℕ} {at : ℕ} {c : ClassStack} {pos : ℕ} (a : Scope) (s : Count) (f : Asks ws aliases at 1 (s .next) c pos (size (hereAt ws at 1 a s))) (h : at < length ws)
+module _ {ws notes : List ℕ} {at : ℕ} {c : ClassStack} {pos : ℕ} (a : Scope) (s : Count) (f : Asks ws notes at 1 (s .next) c pos (size (hereAt ws at 1 a s))) (h : at < length ws)
     (kind : labelAt ws at .kind ≡ 4) (live : isLive (takeF 1 (recordsAt ws (at + 1))) ≡ true) {g : ClassPlan} (p : Plans ws at (s .next) g) where
   start-next : stateIn s .next ≡ s .next
   unfolding stateIn stateOf
@@ -846,10 +846,10 @@ module _ {ws aliases : List ℕ} {at : ℕ} {c : ClassStack} {pos : ℕ} (a : Sc
           length-words c (hereAt ws at 1 a s),
         )
 
-    pub statement-class : (q : ℕ) → q ≡ pos + length (headOf g c x) → Asks ws aliases at 1 (s .next) c q (length (classWords ws at (s .next) (wordBelow c)))
+    pub statement-class : (q : ℕ) → q ≡ pos + length (headOf g c x) → Asks ws notes at 1 (s .next) c q (length (classWords ws at (s .next) (wordBelow c)))
     statement-class q e = asks-words f q _ (omega (arith, f .fit, statement-length))
 
-    pub statement-queue : Asks ws aliases at 1 (s .next) c 0 (length (queueWords ws at (s .next) (wordBelow c)))
+    pub statement-queue : Asks ws notes at 1 (s .next) c 0 (length (queueWords ws at (s .next) (wordBelow c)))
     statement-queue = asks-words f 0 _ (omega (arith, f .fit, statement-length))
 
     pub statement-end : (q r : ℕ) → q ≡ pos + length (headOf g c x) → r ≡ q + length (classWords ws at (s .next) (wordBelow c)) → r + length (queueWords ws at (s .next) (wordBelow c)) < 67108864

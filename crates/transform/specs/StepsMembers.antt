@@ -49,14 +49,14 @@ wrote-as {o} {at} {o′ = o′} {n} e = subst (λ (l : List ℕ). Wrote o at l o
 
 -- ---- what a walker may ask further on, at a place known by an equation
 
-asks-at : {ws aliases : List ℕ} {at k n : ℕ} {c : ClassStack} {pos len : ℕ} → Asks ws aliases at k n c pos len → (a : Scope) (s : Count) (j i p m e q l : ℕ) → s .next ≡ n → j + i ≤ k →
-    p ≡ endOf ws at j → afterAt ws at j a s ≡ stateOf m e → q + l < 67108864 → Asks ws aliases p i m c q l
-asks-at {ws} {aliases} {c = c} f a s j i p m e q l z h x t g = subst (λ (y : ℕ). Asks ws aliases y i m c q l) (sym x) (asks-row f a s j i m e q l z h t g)
+asks-at : {ws notes : List ℕ} {at k n : ℕ} {c : ClassStack} {pos len : ℕ} → Asks ws notes at k n c pos len → (a : Scope) (s : Count) (j i p m e q l : ℕ) → s .next ≡ n → j + i ≤ k →
+    p ≡ endOf ws at j → afterAt ws at j a s ≡ stateOf m e → q + l < 67108864 → Asks ws notes p i m c q l
+asks-at {ws} {notes} {c = c} f a s j i p m e q l z h x t g = subst (λ (y : ℕ). Asks ws notes y i m c q l) (sym x) (asks-row f a s j i m e q l z h t g)
 
 -- behind the first child of a record, which was counted
-module _ {ws aliases : List ℕ} {at : ℕ} {a : Scope} {s : Count} {c : ClassStack} {pos len : ℕ} (f : Asks ws aliases at 1 (s .next) c pos len) (h : at < length ws) {d : Counted}
+module _ {ws notes : List ℕ} {at : ℕ} {a : Scope} {s : Count} {c : ClassStack} {pos len : ℕ} (f : Asks ws notes at 1 (s .next) c pos len) (h : at < length ws) {d : Counted}
     (x : Counts ws (at + 1) 1 a (s .next) (s .default) d) where
-  asks-second : (i q l : ℕ) → 1 + i ≤ arityAt ws at → q + l < 67108864 → Asks ws aliases (d .at) i (d .next) c q l
+  asks-second : (i q l : ℕ) → 1 + i ≤ arityAt ws at → q + l < 67108864 → Asks ws notes (d .at) i (d .next) c q l
   asks-second i q l b g = asks-at (asks-kids f q l refl h g) a s 1 i (d .at) (d .next) (d .default) q l refl b (x .place) (counts-after ws (at + 1) 1 a s x) g
 
 -- what is said of its place, of the number n of the record's children and of the state in front of it
@@ -132,9 +132,9 @@ module _ (ws : List ℕ) (at : ℕ) (a : Scope) (s : Count) (c : ClassStack) whe
   parameters-after h k = plain-after ws (aroundOf a) at (stateIn s) h (plain-36 _ k)
 
   -- the walk stands behind i parameters
-  module _ {aliases : List ℕ} {pos : ℕ} (f : Asks ws aliases at 1 (s .next) c pos (length (parametersWords (wordBelow c) ws (aroundOf a) at (stateIn s)))) (h : at < length ws)
+  module _ {notes : List ℕ} {pos : ℕ} (f : Asks ws notes at 1 (s .next) c pos (length (parametersWords (wordBelow c) ws (aroundOf a) at (stateIn s)))) (h : at < length ws)
       (i q p₀ p n d j : ℕ) {o o₁ : List ℕ} (x : Bared ws (at + 1) i a s c o p₀ o₁ (record { at = q; pos = p; next = n; default = d; count = j })) where
-    pub asks-parameter : i < arityAt ws at → p₀ ≡ pos + 1 → Asks ws aliases q 1 n c p (size (bareParameters (hereAt ws q 1 a (record { next = n; default = d }))))
+    pub asks-parameter : i < arityAt ws at → p₀ ≡ pos + 1 → Asks ws notes q 1 n c p (size (bareParameters (hereAt ws q 1 a (record { next = n; default = d }))))
     asks-parameter b e =
         let t : Count = record { next = n; default = d } in
         let k : i + (1 + (arityAt ws at - i - 1)) ≡ arityAt ws at = omega arith in
@@ -179,12 +179,12 @@ module _ (ws : List ℕ) (at : ℕ) (a : Scope) (s : Count) (c : ClassStack) (wh
     parameter-length =
         omega (arith, ap length parameter-words, length-words c (bareParameters (hereAt ws at 1 a s)), length-words c (hereAt ws (d .at) (n - 1) a (counted d)))
 
-    module _ {aliases : List ℕ} {pos : ℕ} (f : Asks ws aliases at 1 (s .next) c pos (size (bareParameters (hereAt ws at 1 a s)))) where
+    module _ {notes : List ℕ} {pos : ℕ} (f : Asks ws notes at 1 (s .next) c pos (size (bareParameters (hereAt ws at 1 a s)))) where
       pub parameter-room : pos + 1 < 67108864
       parameter-room = omega (arith, f .fit, parameter-length)
 
       pub asks-value : {o o₁ o₂ : List ℕ} {p₁ p₂ : ℕ} {v w : ℕ} → Wrote o pos (v ∷ []) o₁ p₁ → Wrote o₁ p₁ (w ∷ []) o₂ p₂ →
-          Asks ws aliases (d .at) (n - 1) (d .next) c p₂ (size (hereAt ws (d .at) (n - 1) a (counted d)))
+          Asks ws notes (d .at) (n - 1) (d .next) c p₂ (size (hereAt ws (d .at) (n - 1) a (counted d)))
       asks-value y z = asks-second f h x (n - 1) _ _ (omega (arith, e, parameter-first .count)) (omega (arith, f .fit, parameter-length, y .end, z .end))
 
     parameter-state : afterAt ws at 1 a s ≡ afterAt ws (d .at) (n - 1) a (counted d)
@@ -271,8 +271,8 @@ module _ (ws : List ℕ) (at : ℕ) (a : Scope) (s : Count) (c : ClassStack) {d 
   unfolding wordsOf hereAt
   field-words k = behind-words false (unfold is in ne-eqb _ 30 k)
 
-  module _ {aliases : List ℕ} {pos : ℕ} (f : Asks ws aliases at 1 (s .next) c pos (length (behindWords ws at a s c))) (h : at < length ws) where
-    pub asks-field : (labelAt ws at .kind ≡ 30 → ⊥) → 1 ≤ n → Asks ws aliases (d .at) (n - 1) (d .next) c pos (size (hereAt ws (d .at) (n - 1) a (counted d)))
+  module _ {notes : List ℕ} {pos : ℕ} (f : Asks ws notes at 1 (s .next) c pos (length (behindWords ws at a s c))) (h : at < length ws) where
+    pub asks-field : (labelAt ws at .kind ≡ 30 → ⊥) → 1 ≤ n → Asks ws notes (d .at) (n - 1) (d .next) c pos (size (hereAt ws (d .at) (n - 1) a (counted d)))
     asks-field k g =
         let t : Trees = hereAt ws (d .at) (n - 1) a (counted d) in
         asks-second f h x (n - 1) pos (size t) (omega arith) (omega (arith, f .fit, ap length (field-words k), length-words c t))
@@ -328,20 +328,20 @@ module _ (ws : List ℕ) (at : ℕ) (a : Scope) (s : Count) (c : ClassStack) {d 
             omega (arith, ap length method-whole, length-append (wordsOf c (hereAt ws (d .at) 1 a b)) (v ++ wordsOf c f), length-append v (wordsOf c f), length-words c f)
 
     -- the steps of a method: key, parameters, what stands behind them
-    module _ {aliases : List ℕ} {pos : ℕ} (f : Asks ws aliases at 1 (s .next) c pos (length (behindWords ws at a s c))) (h : at < length ws) where
+    module _ {notes : List ℕ} {pos : ℕ} (f : Asks ws notes at 1 (s .next) c pos (length (behindWords ws at a s c))) (h : at < length ws) where
       pub method-three : n ≡ 3 + (n - 3)
       method-three = let g : Called ws at = method-called ws at (f .ready .whole) h k in omega (arith, e, g .count, g .keyed .count, g .keyed .marked .count)
 
-      pub asks-key : Asks ws aliases (d .at) 1 (d .next) c pos (size (hereAt ws (d .at) 1 a (counted d)))
+      pub asks-key : Asks ws notes (d .at) 1 (d .next) c pos (size (hereAt ws (d .at) 1 a (counted d)))
       asks-key = asks-second f h x 1 pos _ (omega (arith, e, method-three)) (omega (arith, f .fit, key-size))
 
       module _ {o o₁ : List ℕ} {r : Went} (y : Emitted ws (d .at) 1 a (counted d) c o pos o₁ r) where
         -- of records behind the key
-        asks-third : (i q l : ℕ) → 2 + i ≤ n → q + l < 67108864 → Asks ws aliases (r .at) i (r .next) c q l
+        asks-third : (i q l : ℕ) → 2 + i ≤ n → q + l < 67108864 → Asks ws notes (r .at) i (r .next) c q l
         asks-third i q l b g =
             asks-at (asks-second f h x (n - 1) q l (omega (arith, e)) g) a (counted d) 1 i (r .at) (r .next) (r .default) q l refl (omega arith) (y .moved .place) (y .moved .state) g
 
-        pub asks-called : Asks ws aliases (r .at) 1 (r .next) c (r .pos) (length (parametersWords (wordBelow c) ws (aroundOf a) (r .at) (stateIn (reached r))))
+        pub asks-called : Asks ws notes (r .at) 1 (r .next) c (r .pos) (length (parametersWords (wordBelow c) ws (aroundOf a) (r .at) (stateIn (reached r))))
         asks-called = asks-third 1 (r .pos) _ (omega (arith, method-three)) (omega (arith, f .fit, parameters-size (r .at) (r .next) (r .default) (y .moved .place) (y .moved .state), y .moved .wrote .end))
 
         pub called-place : (r .at < length ws) × (labelAt ws (r .at) .kind ≡ 36)
@@ -355,7 +355,7 @@ module _ (ws : List ℕ) (at : ℕ) (a : Scope) (s : Count) (c : ClassStack) {d 
 
         module _ {o₂ : List ℕ} {v : Went} (z : Moved (parametersWords (wordBelow c) ws (aroundOf a) (r .at) (stateIn (reached r))) (endOf ws (r .at) 1)
             (afterAt ws (r .at) 1 a (reached r)) o₁ (r .pos) o₂ v) where
-          pub asks-rest : Asks ws aliases (v .at) (n - 3) (v .next) c (v .pos) (size (hereAt ws (v .at) (n - 3) a (reached v)))
+          pub asks-rest : Asks ws notes (v .at) (n - 3) (v .next) c (v .pos) (size (hereAt ws (v .at) (n - 3) a (reached v)))
           asks-rest =
               let l : ℕ = size (hereAt ws (v .at) (n - 3) a (reached v)) in
               let g : v .pos + l < 67108864 =
@@ -381,7 +381,7 @@ key-taken true false p id t e = absurd (false≢true e)
 key-taken false y p id t e = absurd (false≢true e)
 
 -- w: the state behind it
-module _ {ws aliases : List ℕ} {at : ℕ} {a : Scope} {s : Count} {c : ClassStack} {pos : ℕ} (f : Asks ws aliases at 1 (s .next) c pos (length (memberWords ws at a s c))) (h : at < length ws)
+module _ {ws notes : List ℕ} {at : ℕ} {a : Scope} {s : Count} {c : ClassStack} {pos : ℕ} (f : Asks ws notes at 1 (s .next) c pos (length (memberWords ws at a s c))) (h : at < length ws)
     (k : isElementKind (labelAt ws at .kind) ≡ true) {w : Counted} (x : Counts ws at 1 a (s .next) (s .default) w) where
   key-next : visitOne (aroundOf a) (labelAt ws at) (kidsAt ws at) (stateIn s) .after .next ≡ w .next
   key-next = ap (λ (t : State). t .next) (sym (after-one ws at a s h) ∙ counts-after ws at 1 a s x) ∙ (unfold stateOf in refl)

@@ -382,13 +382,13 @@ module _ (ws : List ℕ) (at : ℕ) (a : Scope) (s : Count) (c : ClassStack) (h 
   pub module-inside : at + 2 ≤ length ws
   module-inside = omega (arith, symbols-inside)
 
-  pub module-asks : {aliases : List ℕ} {pos : ℕ} → Asks ws aliases at 1 (s .next) c pos (size (hereAt ws at 1 a s)) →
-      Asks ws aliases (at + 2) (labelAt ws at .payload) (s .next) c (pos + 2) (size (hereAt ws (at + 2) (labelAt ws at .payload) a s))
-  module-asks {aliases} {pos} f =
+  pub module-asks : {notes : List ℕ} {pos : ℕ} → Asks ws notes at 1 (s .next) c pos (size (hereAt ws at 1 a s)) →
+      Asks ws notes (at + 2) (labelAt ws at .payload) (s .next) c (pos + 2) (size (hereAt ws (at + 2) (labelAt ws at .payload) a s))
+  module-asks {notes} {pos} f =
       let l : ℕ = size (hereAt ws (at + 2) (labelAt ws at .payload) a s) in
       let fit : pos + 2 + l < 67108864 = omega (arith, f .fit, module-size) in
-      let k : Asks ws aliases (at + 1) (arityAt ws at) (s .next) c (pos + 2) l = asks-kids f (pos + 2) l refl h fit in
-      subst (λ (i : ℕ). Asks ws aliases i (labelAt ws at .payload) (s .next) c (pos + 2) l) (sym symbols-end)
+      let k : Asks ws notes (at + 1) (arityAt ws at) (s .next) c (pos + 2) l = asks-kids f (pos + 2) l refl h fit in
+      subst (λ (i : ℕ). Asks ws notes i (labelAt ws at .payload) (s .next) c (pos + 2) l) (sym symbols-end)
       (asks-row k a s 1 (labelAt ws at .payload) (s .next) (s .default) (pos + 2) l refl (omega (arith, module-arity)) symbols-after fit)
 
 -- ---- a member
@@ -486,7 +486,7 @@ module _ (ws : List ℕ) (at : ℕ) (a : Scope) (s : Count) (c : ClassStack) whe
   pub emit-inside : (k : ℕ) {o : List ℕ} {pos : ℕ} {o′ : List ℕ} {r : Went} → Emitted ws at k a s c o pos o′ r → at ≤ length ws → r .at ≤ length ws
   emit-inside k y h = omega (arith, y .moved .place, end-high ws at k)
 
-module _ {ws aliases : List ℕ} {at k n : ℕ} {c : ClassStack} {pos : ℕ} (a : Scope) (s : Count) (f : Asks ws aliases at k n c pos (size (hereAt ws at k a s))) where
+module _ {ws notes : List ℕ} {at k n : ℕ} {c : ClassStack} {pos : ℕ} (a : Scope) (s : Count) (f : Asks ws notes at k n c pos (size (hereAt ws at k a s))) where
   module _ (i q p m e x : ℕ) {o o′ : List ℕ} (z : s .next ≡ n) (l : i < k) (y : Emitted ws at i a s c o pos o′ (record { at = q; pos = p; next = m; default = e; count = x })) where
     rest-size : size (hereAt ws at k a s) ≡ size (hereAt ws at i a s) + size (hereAt ws q (k - i) a (record { next = m; default = e }))
     rest-size =
@@ -503,14 +503,14 @@ module _ {ws aliases : List ℕ} {at k n : ℕ} {c : ClassStack} {pos : ℕ} (a 
     pub next-size : p + size (hereAt ws q 1 a (record { next = m; default = e })) < 67108864
     next-size = omega (arith, f .fit, rest-size, first-size, y .moved .wrote .end, length-words c (hereAt ws at i a s))
 
-    pub asks-next : Asks ws aliases q 1 m c p (size (hereAt ws q 1 a (record { next = m; default = e })))
+    pub asks-next : Asks ws notes q 1 m c p (size (hereAt ws q 1 a (record { next = m; default = e })))
     asks-next =
-        subst (λ (u : ℕ). Asks ws aliases u 1 m c p (size (hereAt ws q 1 a (record { next = m; default = e })))) (sym (y .moved .place))
+        subst (λ (u : ℕ). Asks ws notes u 1 m c p (size (hereAt ws q 1 a (record { next = m; default = e })))) (sym (y .moved .place))
         (asks-row f a s i 1 m e p (size (hereAt ws q 1 a (record { next = m; default = e }))) z (omega arith) (y .moved .state) next-size)
 
 -- what a walker may ask of a record's only child
-pub asks-one : {ws aliases : List ℕ} {at n : ℕ} {c : ClassStack} {pos len : ℕ} → Asks ws aliases at 1 n c pos len → arityAt ws at ≡ 1 → (q l : ℕ) → at < length ws → q + l < 67108864 → Asks ws aliases (at + 1) 1 n c q l
-asks-one {ws} {aliases} {at} {n} {c} f e q l h g = subst (λ (j : ℕ). Asks ws aliases (at + 1) j n c q l) e (asks-kids f q l refl h g)
+pub asks-one : {ws notes : List ℕ} {at n : ℕ} {c : ClassStack} {pos len : ℕ} → Asks ws notes at 1 n c pos len → arityAt ws at ≡ 1 → (q l : ℕ) → at < length ws → q + l < 67108864 → Asks ws notes (at + 1) 1 n c q l
+asks-one {ws} {notes} {at} {n} {c} f e q l h g = subst (λ (j : ℕ). Asks ws notes (at + 1) j n c q l) e (asks-kids f q l refl h g)
 
 -- the counter behind some records is a payload
 pub next-small : (ws : List ℕ) (at k : ℕ) (a : Scope) (s : Count) {b : ℕ} → length ws ≤ 4096 → s .next + 2 * (length ws - b) < 67108864 → b ≤ at → at ≤ length ws → (m e : ℕ) → afterAt ws at k a s ≡ stateOf m e → m < 67108864

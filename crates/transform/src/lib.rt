@@ -68,7 +68,7 @@ fn put_optional(c: ClassStack, k: u32, p: u32, out: &mut [u32], pos: usize) -> u
 // What the k records at `at` become.
 pub fn records(
     ws: &[u32],
-    aliases: &[u8],
+    notes: &[u32],
     at: usize,
     k: usize,
     a: Scope,
@@ -77,7 +77,7 @@ pub fn records(
     out: &mut [u32],
     pos: usize,
 ) -> Went
-    requires { ⌜ Asks (now ws) (now aliases) at k (s .next) c pos (size (hereAt (now ws) at k a s)) ⌝ }
+    requires { ⌜ Asks (now ws) (now notes) at k (s .next) c pos (size (hereAt (now ws) at k a s)) ⌝ }
     ensures { λ r. ⌜ Emitted (now (ws .entry)) at k a s c (now (out .entry)) pos (now (out .exit)) r ⌝ }
 {
     let mut q = at;
@@ -98,7 +98,7 @@ pub fn records(
         }
         let r = record(
             ws,
-            aliases,
+            notes,
             q,
             a,
             Count {
@@ -127,7 +127,7 @@ pub fn records(
 
 pub fn record(
     ws: &[u32],
-    aliases: &[u8],
+    notes: &[u32],
     at: usize,
     a: Scope,
     s: Count,
@@ -135,33 +135,33 @@ pub fn record(
     out: &mut [u32],
     pos: usize,
 ) -> Went
-    requires { ⌜ Asks (now ws) (now aliases) at 1 (s .next) c pos (size (hereAt (now ws) at 1 a s)) × (at < length (now ws)) ⌝ }
+    requires { ⌜ Asks (now ws) (now notes) at 1 (s .next) c pos (size (hereAt (now ws) at 1 a s)) × (at < length (now ws)) ⌝ }
     ensures { λ r. ⌜ Emitted (now (ws .entry)) at 1 a s c (now (out .entry)) pos (now (out .exit)) r ⌝ }
 {
     let k = inspect::kind_at(ws, at);
     match k {
-        1 => program(ws, aliases, at, a, s, c, out, pos),
-        3 => list(ws, aliases, at, a, s, c, out, pos),
-        33 => list(ws, aliases, at, a, s, c, out, pos),
-        39 => list(ws, aliases, at, a, s, c, out, pos),
-        4 => class_statement(ws, aliases, at, a, s, c, out, pos),
-        20 => expression(ws, aliases, at, a, s, c, out, pos),
+        1 => program(ws, notes, at, a, s, c, out, pos),
+        3 => list(ws, notes, at, a, s, c, out, pos),
+        33 => list(ws, notes, at, a, s, c, out, pos),
+        39 => list(ws, notes, at, a, s, c, out, pos),
+        4 => class_statement(ws, notes, at, a, s, c, out, pos),
+        20 => expression(ws, notes, at, a, s, c, out, pos),
         30 => {
             if inspect::is_constructor(inspect::word_at(ws, at)) {
-                return kept(ws, aliases, at, a, s, c, out, pos);
+                return kept(ws, notes, at, a, s, c, out, pos);
             }
-            member(ws, aliases, at, a, s, c, out, pos)
+            member(ws, notes, at, a, s, c, out, pos)
         }
-        31 => member(ws, aliases, at, a, s, c, out, pos),
-        32 => member(ws, aliases, at, a, s, c, out, pos),
-        _ => kept(ws, aliases, at, a, s, c, out, pos),
+        31 => member(ws, notes, at, a, s, c, out, pos),
+        32 => member(ws, notes, at, a, s, c, out, pos),
+        _ => kept(ws, notes, at, a, s, c, out, pos),
     }
 }
 
 // A module: its statements are counted again, and its 40 holds the next fresh symbol (rule 1). Both words are put in front last.
 fn program(
     ws: &[u32],
-    aliases: &[u8],
+    notes: &[u32],
     at: usize,
     a: Scope,
     s: Count,
@@ -169,12 +169,12 @@ fn program(
     out: &mut [u32],
     pos: usize,
 ) -> Went
-    requires { ⌜ Asks (now ws) (now aliases) at 1 (s .next) c pos (size (hereAt (now ws) at 1 a s)) × (at < length (now ws)) × (labelAt (now ws) at .kind ≡ 1) ⌝ }
+    requires { ⌜ Asks (now ws) (now notes) at 1 (s .next) c pos (size (hereAt (now ws) at 1 a s)) × (at < length (now ws)) × (labelAt (now ws) at .kind ≡ 1) ⌝ }
     ensures { λ r. ⌜ Emitted (now (ws .entry)) at 1 a s c (now (out .entry)) pos (now (out .exit)) r ⌝ }
 {
     let r = records(
         ws,
-        aliases,
+        notes,
         at + 2,
         inspect::payload_at(ws, at) as usize,
         a,
@@ -197,7 +197,7 @@ fn program(
 // A record whose word stays as it is.
 fn kept(
     ws: &[u32],
-    aliases: &[u8],
+    notes: &[u32],
     at: usize,
     a: Scope,
     s: Count,
@@ -205,7 +205,7 @@ fn kept(
     out: &mut [u32],
     pos: usize,
 ) -> Went
-    requires { ⌜ Asks (now ws) (now aliases) at 1 (s .next) c pos (size (hereAt (now ws) at 1 a s)) × (at < length (now ws)) × ((roleOf (labelAt (now ws) at) ≡ plain) ⊎ (roleOf (labelAt (now ws) at) ≡ constructor)) ⌝ }
+    requires { ⌜ Asks (now ws) (now notes) at 1 (s .next) c pos (size (hereAt (now ws) at 1 a s)) × (at < length (now ws)) × ((roleOf (labelAt (now ws) at) ≡ plain) ⊎ (roleOf (labelAt (now ws) at) ≡ constructor)) ⌝ }
     ensures { λ r. ⌜ Emitted (now (ws .entry)) at 1 a s c (now (out .entry)) pos (now (out .exit)) r ⌝ }
 {
     let p = put(
@@ -217,7 +217,7 @@ fn kept(
     );
     let r = records(
         ws,
-        aliases,
+        notes,
         at + 1,
         inspect::children_at(ws, at),
         a,
@@ -238,7 +238,7 @@ fn kept(
 // A list of statements, counted again: its word is put in front last.
 fn list(
     ws: &[u32],
-    aliases: &[u8],
+    notes: &[u32],
     at: usize,
     a: Scope,
     s: Count,
@@ -246,12 +246,12 @@ fn list(
     out: &mut [u32],
     pos: usize,
 ) -> Went
-    requires { ⌜ Asks (now ws) (now aliases) at 1 (s .next) c pos (size (hereAt (now ws) at 1 a s)) × (at < length (now ws)) × (roleOf (labelAt (now ws) at) ≡ list) ⌝ }
+    requires { ⌜ Asks (now ws) (now notes) at 1 (s .next) c pos (size (hereAt (now ws) at 1 a s)) × (at < length (now ws)) × (roleOf (labelAt (now ws) at) ≡ list) ⌝ }
     ensures { λ r. ⌜ Emitted (now (ws .entry)) at 1 a s c (now (out .entry)) pos (now (out .exit)) r ⌝ }
 {
     let r = records(
         ws,
-        aliases,
+        notes,
         at + 1,
         inspect::children_at(ws, at),
         a,
@@ -273,7 +273,7 @@ fn list(
 // A class expression.
 fn expression(
     ws: &[u32],
-    aliases: &[u8],
+    notes: &[u32],
     at: usize,
     a: Scope,
     s: Count,
@@ -281,7 +281,7 @@ fn expression(
     out: &mut [u32],
     pos: usize,
 ) -> Went
-    requires { ⌜ Asks (now ws) (now aliases) at 1 (s .next) c pos (size (hereAt (now ws) at 1 a s)) × (at < length (now ws)) × (labelAt (now ws) at .kind ≡ 20) ⌝ }
+    requires { ⌜ Asks (now ws) (now notes) at 1 (s .next) c pos (size (hereAt (now ws) at 1 a s)) × (at < length (now ws)) × (labelAt (now ws) at .kind ≡ 20) ⌝ }
     ensures { λ r. ⌜ Emitted (now (ws .entry)) at 1 a s c (now (out .entry)) pos (now (out .exit)) r ⌝ }
 {
     let p = put(
@@ -293,7 +293,7 @@ fn expression(
     );
     let r = records(
         ws,
-        aliases,
+        notes,
         at + 1,
         1,
         Scope {
@@ -319,7 +319,7 @@ fn expression(
 
 fn class_statement(
     ws: &[u32],
-    aliases: &[u8],
+    notes: &[u32],
     at: usize,
     a: Scope,
     s: Count,
@@ -327,19 +327,19 @@ fn class_statement(
     out: &mut [u32],
     pos: usize,
 ) -> Went
-    requires { ⌜ Asks (now ws) (now aliases) at 1 (s .next) c pos (size (hereAt (now ws) at 1 a s)) × (at < length (now ws)) × (labelAt (now ws) at .kind ≡ 4) ⌝ }
+    requires { ⌜ Asks (now ws) (now notes) at 1 (s .next) c pos (size (hereAt (now ws) at 1 a s)) × (at < length (now ws)) × (labelAt (now ws) at .kind ≡ 4) ⌝ }
     ensures { λ r. ⌜ Emitted (now (ws .entry)) at 1 a s c (now (out .entry)) pos (now (out .exit)) r ⌝ }
 {
     if inspect::is_live(ws, at + 1) {
-        return live_class(ws, aliases, at, a, s, c, out, pos);
+        return live_class(ws, notes, at, a, s, c, out, pos);
     }
-    declared(ws, aliases, at, a, s, c, out, pos)
+    declared(ws, notes, at, a, s, c, out, pos)
 }
 
 // A class statement that is declare.
 fn declared(
     ws: &[u32],
-    aliases: &[u8],
+    notes: &[u32],
     at: usize,
     a: Scope,
     s: Count,
@@ -347,7 +347,7 @@ fn declared(
     out: &mut [u32],
     pos: usize,
 ) -> Went
-    requires { ⌜ Asks (now ws) (now aliases) at 1 (s .next) c pos (size (hereAt (now ws) at 1 a s)) × (at < length (now ws)) × (labelAt (now ws) at .kind ≡ 4) × (isLive (takeF 1 (recordsAt (now ws) (at + 1))) ≡ false) ⌝ }
+    requires { ⌜ Asks (now ws) (now notes) at 1 (s .next) c pos (size (hereAt (now ws) at 1 a s)) × (at < length (now ws)) × (labelAt (now ws) at .kind ≡ 4) × (isLive (takeF 1 (recordsAt (now ws) (at + 1))) ≡ false) ⌝ }
     ensures { λ r. ⌜ Emitted (now (ws .entry)) at 1 a s c (now (out .entry)) pos (now (out .exit)) r ⌝ }
 {
     let id = inspect::class_id(ws, at + 1);
@@ -360,7 +360,7 @@ fn declared(
     );
     let r = records(
         ws,
-        aliases,
+        notes,
         at + 1,
         1,
         Scope { live: false, id },
@@ -386,7 +386,7 @@ fn declared(
 // What stays of a member, or of a constructor that gives up its decorators.
 fn member(
     ws: &[u32],
-    aliases: &[u8],
+    notes: &[u32],
     at: usize,
     a: Scope,
     s: Count,
@@ -394,10 +394,10 @@ fn member(
     out: &mut [u32],
     pos: usize,
 ) -> Went
-    requires { ⌜ Asks (now ws) (now aliases) at 1 (s .next) c pos (length (memberWords (now ws) at a s c)) × (at < length (now ws)) × (isElementKind (labelAt (now ws) at .kind) ≡ true) ⌝ }
+    requires { ⌜ Asks (now ws) (now notes) at 1 (s .next) c pos (length (memberWords (now ws) at a s c)) × (at < length (now ws)) × (isElementKind (labelAt (now ws) at .kind) ≡ true) ⌝ }
     ensures { λ r. ⌜ Moved (memberWords (now (ws .entry)) at a s c) (endOf (now (ws .entry)) at 1) (afterAt (now (ws .entry)) at 1 a s) (now (out .entry)) pos (now (out .exit)) r × (r .count ≡ 1) ⌝ }
 {
-    let whole = counter::count_record(ws, aliases, at, a, s);
+    let whole = counter::count_record(ws, notes, at, a, s);
     let p1 = put(
         c,
         inspect::kind_at(ws, at),
@@ -407,7 +407,7 @@ fn member(
     );
     let p2 = put(c, 28, 0, out, p1);
     let p3 = key_assignment(ws, at, a, whole.next, c, out, p2);
-    let p4 = bare(ws, aliases, at, a, s, c, out, p3);
+    let p4 = bare(ws, notes, at, a, s, c, out, p3);
     Went {
         at: whole.at,
         pos: p4,
@@ -445,7 +445,7 @@ fn key_assignment(
 // The key of the element at `at` and what stands behind it, the parameters without decorators; s is the state in front of the element.
 fn bare(
     ws: &[u32],
-    aliases: &[u8],
+    notes: &[u32],
     at: usize,
     a: Scope,
     s: Count,
@@ -453,15 +453,15 @@ fn bare(
     out: &mut [u32],
     pos: usize,
 ) -> usize
-    requires { ⌜ Asks (now ws) (now aliases) at 1 (s .next) c pos (length (behindWords (now ws) at a s c)) × (at < length (now ws)) × (isElementKind (labelAt (now ws) at .kind) ≡ true) ⌝ }
+    requires { ⌜ Asks (now ws) (now notes) at 1 (s .next) c pos (length (behindWords (now ws) at a s c)) × (at < length (now ws)) × (isElementKind (labelAt (now ws) at .kind) ≡ true) ⌝ }
     ensures { λ r. ⌜ Wrote (now (out .entry)) pos (behindWords (now (ws .entry)) at a s c) (now (out .exit)) r ⌝ }
 {
     let n = inspect::children_at(ws, at);
-    let d = counter::count_record(ws, aliases, at + 1, a, s);
+    let d = counter::count_record(ws, notes, at + 1, a, s);
     if inspect::kind_at(ws, at) != 30 {
         let r = records(
             ws,
-            aliases,
+            notes,
             d.at,
             n - 1,
             a,
@@ -477,7 +477,7 @@ fn bare(
     }
     let key = records(
         ws,
-        aliases,
+        notes,
         d.at,
         1,
         a,
@@ -491,7 +491,7 @@ fn bare(
     );
     let q = parameters(
         ws,
-        aliases,
+        notes,
         key.at,
         a,
         Count {
@@ -504,7 +504,7 @@ fn bare(
     );
     let r = records(
         ws,
-        aliases,
+        notes,
         q.at,
         n - 3,
         a,
@@ -522,7 +522,7 @@ fn bare(
 // A 36 whose parameters lose their decorators.
 fn parameters(
     ws: &[u32],
-    aliases: &[u8],
+    notes: &[u32],
     at: usize,
     a: Scope,
     s: Count,
@@ -530,7 +530,7 @@ fn parameters(
     out: &mut [u32],
     pos: usize,
 ) -> Went
-    requires { ⌜ Asks (now ws) (now aliases) at 1 (s .next) c pos (length (parametersWords (wordBelow c) (now ws) (aroundOf a) at (stateIn s))) × (at < length (now ws)) × (labelAt (now ws) at .kind ≡ 36) ⌝ }
+    requires { ⌜ Asks (now ws) (now notes) at 1 (s .next) c pos (length (parametersWords (wordBelow c) (now ws) (aroundOf a) at (stateIn s))) × (at < length (now ws)) × (labelAt (now ws) at .kind ≡ 36) ⌝ }
     ensures { λ r. ⌜ Moved (parametersWords (wordBelow c) (now (ws .entry)) (aroundOf a) at (stateIn s)) (endOf (now (ws .entry)) at 1) (afterAt (now (ws .entry)) at 1 a s) (now (out .entry)) pos (now (out .exit)) r ⌝ }
 {
     let k = inspect::children_at(ws, at);
@@ -542,7 +542,7 @@ fn parameters(
     while i < k {
         let r = parameter(
             ws,
-            aliases,
+            notes,
             q,
             a,
             Count {
@@ -570,7 +570,7 @@ fn parameters(
 
 fn parameter(
     ws: &[u32],
-    aliases: &[u8],
+    notes: &[u32],
     at: usize,
     a: Scope,
     s: Count,
@@ -578,15 +578,15 @@ fn parameter(
     out: &mut [u32],
     pos: usize,
 ) -> Went
-    requires { ⌜ Asks (now ws) (now aliases) at 1 (s .next) c pos (size (bareParameters (hereAt (now ws) at 1 a s))) × (at < length (now ws)) × (labelAt (now ws) at .kind ≡ 37) ⌝ }
+    requires { ⌜ Asks (now ws) (now notes) at 1 (s .next) c pos (size (bareParameters (hereAt (now ws) at 1 a s))) × (at < length (now ws)) × (labelAt (now ws) at .kind ≡ 37) ⌝ }
     ensures { λ r. ⌜ Moved (wordsOf c (bareParameters (hereAt (now (ws .entry)) at 1 a s))) (endOf (now (ws .entry)) at 1) (afterAt (now (ws .entry)) at 1 a s) (now (out .entry)) pos (now (out .exit)) r ⌝ }
 {
-    let d = counter::count_record(ws, aliases, at + 1, a, s);
+    let d = counter::count_record(ws, notes, at + 1, a, s);
     let p1 = put(c, 37, inspect::payload_at(ws, at), out, pos);
     let p2 = put(c, 28, 0, out, p1);
     records(
         ws,
-        aliases,
+        notes,
         d.at,
         inspect::children_at(ws, at) - 1,
         a,
@@ -605,7 +605,7 @@ fn parameter(
 // The calls that the k elements at `at` queue.
 fn calls(
     ws: &[u32],
-    aliases: &[u8],
+    notes: &[u32],
     at: usize,
     k: usize,
     a: Scope,
@@ -614,7 +614,7 @@ fn calls(
     out: &mut [u32],
     pos: usize,
 ) -> Went
-    requires { ⌜ Asks (now ws) (now aliases) at k (s .next) c pos (size (callsAt (now ws) at k a s)) × RowFits (now ws) at k (replicate k element) × (a .live ≡ true) × Below (s .next) (optOf (a .id)) × Below (s .next) (optOf (s .default)) ⌝ }
+    requires { ⌜ Asks (now ws) (now notes) at k (s .next) c pos (size (callsAt (now ws) at k a s)) × RowFits (now ws) at k (replicate k element) × (a .live ≡ true) × Below (s .next) (optOf (a .id)) × Below (s .next) (optOf (s .default)) ⌝ }
     ensures { λ r. ⌜ Queues (now (ws .entry)) at k a s c (now (out .entry)) pos (now (out .exit)) r ⌝ }
 {
     let mut q = at;
@@ -626,7 +626,7 @@ fn calls(
     while i < k {
         let r = call(
             ws,
-            aliases,
+            notes,
             q,
             a,
             Count {
@@ -656,7 +656,7 @@ fn calls(
 // The call of the element at `at`, if it is a decorated member.
 fn call(
     ws: &[u32],
-    aliases: &[u8],
+    notes: &[u32],
     at: usize,
     a: Scope,
     s: Count,
@@ -664,10 +664,10 @@ fn call(
     out: &mut [u32],
     pos: usize,
 ) -> Went
-    requires { ⌜ Asks (now ws) (now aliases) at 1 (s .next) c pos (size (callsAt (now ws) at 1 a s)) × (at < length (now ws)) × Allowed element (labelAt (now ws) at) × (a .live ≡ true) × Below (s .next) (optOf (a .id)) × Below (s .next) (optOf (s .default)) ⌝ }
+    requires { ⌜ Asks (now ws) (now notes) at 1 (s .next) c pos (size (callsAt (now ws) at 1 a s)) × (at < length (now ws)) × Allowed element (labelAt (now ws) at) × (a .live ≡ true) × Below (s .next) (optOf (a .id)) × Below (s .next) (optOf (s .default)) ⌝ }
     ensures { λ r. ⌜ Queues (now (ws .entry)) at 1 a s c (now (out .entry)) pos (now (out .exit)) r ⌝ }
 {
-    let r = counter::count_record(ws, aliases, at, a, s);
+    let r = counter::count_record(ws, notes, at, a, s);
     if !inspect::member_decorated(ws, at) {
         return Went {
             at: r.at,
@@ -679,7 +679,7 @@ fn call(
     }
     let p1 = put(c, 2, 0, out, pos);
     let p2 = put(c, 22, 4, out, p1);
-    let e = entries(ws, aliases, at, a, s, c, out, p2 + 1);
+    let e = entries(ws, notes, at, a, s, c, out, p2 + 1);
     put(c, 16, e.count, out, p2);
     let p3 = arguments(
         ws,
@@ -800,7 +800,7 @@ fn get_name_of_property_key(
 // The decorators of the member at `at`, then its parameters': the entries of its array.
 fn entries(
     ws: &[u32],
-    aliases: &[u8],
+    notes: &[u32],
     at: usize,
     a: Scope,
     s: Count,
@@ -808,12 +808,12 @@ fn entries(
     out: &mut [u32],
     pos: usize,
 ) -> Went
-    requires { ⌜ Asks (now ws) (now aliases) at 1 (s .next) c pos (size (entries (wordBelow c) (now ws) (aroundOf a) at (stateIn s))) × (at < length (now ws)) × Allowed element (labelAt (now ws) at) × (isDecoratedMember (labelAt (now ws) at) (kidsAt (now ws) at) ≡ true) ⌝ }
+    requires { ⌜ Asks (now ws) (now notes) at 1 (s .next) c pos (size (entries (wordBelow c) (now ws) (aroundOf a) at (stateIn s))) × (at < length (now ws)) × Allowed element (labelAt (now ws) at) × (isDecoratedMember (labelAt (now ws) at) (kidsAt (now ws) at) ≡ true) ⌝ }
     ensures { λ r. ⌜ Wrote (now (out .entry)) pos (wordsOf c (entries (wordBelow c) (now (ws .entry)) (aroundOf a) at (stateIn s))) (now (out .exit)) (r .pos) × (r .count ≡ countF (entries (wordBelow c) (now (ws .entry)) (aroundOf a) at (stateIn s))) ⌝ }
 {
     let own = records(
         ws,
-        aliases,
+        notes,
         at + 2,
         inspect::children_at(ws, at + 1),
         a,
@@ -825,10 +825,10 @@ fn entries(
     if inspect::kind_at(ws, at) != 30 {
         return own;
     }
-    let key = counter::count_records(ws, aliases, at + 1, 2, a, s);
+    let key = counter::count_records(ws, notes, at + 1, 2, a, s);
     let e = transform_decorators_of_parameters(
         ws,
-        aliases,
+        notes,
         key.at,
         a,
         Count {
@@ -851,7 +851,7 @@ fn entries(
 // The decorators of the parameters of the 36 at `at`, each under a 23 with its parameter's index.
 fn transform_decorators_of_parameters(
     ws: &[u32],
-    aliases: &[u8],
+    notes: &[u32],
     at: usize,
     a: Scope,
     s: Count,
@@ -859,7 +859,7 @@ fn transform_decorators_of_parameters(
     out: &mut [u32],
     pos: usize,
 ) -> Went
-    requires { ⌜ Asks (now ws) (now aliases) at 1 (s .next) c pos (size (ofParameters 0 (kidsHere (now ws) at a s))) × (at < length (now ws)) × (labelAt (now ws) at .kind ≡ 36) ⌝ }
+    requires { ⌜ Asks (now ws) (now notes) at 1 (s .next) c pos (size (ofParameters 0 (kidsHere (now ws) at a s))) × (at < length (now ws)) × (labelAt (now ws) at .kind ≡ 36) ⌝ }
     ensures { λ r. ⌜ Wrote (now (out .entry)) pos (wordsOf c (ofParameters 0 (kidsHere (now (ws .entry)) at a s))) (now (out .exit)) (r .pos) × (r .count ≡ countF (ofParameters 0 (kidsHere (now (ws .entry)) at a s))) ⌝ }
 {
     let k = inspect::children_at(ws, at);
@@ -872,7 +872,7 @@ fn transform_decorators_of_parameters(
     while i < k {
         let e = indexed(
             ws,
-            aliases,
+            notes,
             q,
             i as u32,
             a,
@@ -903,7 +903,7 @@ fn transform_decorators_of_parameters(
 // The decorators of the parameter at `at`, each under 23:j; the state is the one behind the parameter.
 fn indexed(
     ws: &[u32],
-    aliases: &[u8],
+    notes: &[u32],
     at: usize,
     j: u32,
     a: Scope,
@@ -912,10 +912,10 @@ fn indexed(
     out: &mut [u32],
     pos: usize,
 ) -> Went
-    requires { ⌜ Asks (now ws) (now aliases) at 1 (s .next) c pos (size (indexed j (hereAt (now ws) (at + 2) (arityAt (now ws) (at + 1)) a s))) × (at < length (now ws)) × (labelAt (now ws) at .kind ≡ 37) × (j < 67108864) ⌝ }
+    requires { ⌜ Asks (now ws) (now notes) at 1 (s .next) c pos (size (indexed j (hereAt (now ws) (at + 2) (arityAt (now ws) (at + 1)) a s))) × (at < length (now ws)) × (labelAt (now ws) at .kind ≡ 37) × (j < 67108864) ⌝ }
     ensures { λ r. ⌜ Moved (wordsOf c (indexed j (hereAt (now (ws .entry)) (at + 2) (arityAt (now (ws .entry)) (at + 1)) a s))) (endOf (now (ws .entry)) at 1) (afterAt (now (ws .entry)) at 1 a s) (now (out .entry)) pos (now (out .exit)) r × (r .count ≡ countF (indexed j (hereAt (now (ws .entry)) (at + 2) (arityAt (now (ws .entry)) (at + 1)) a s))) ⌝ }
 {
-    let whole = counter::count_record(ws, aliases, at, a, s);
+    let whole = counter::count_record(ws, notes, at, a, s);
     let k = inspect::children_at(ws, at + 1);
     let mut q = at + 2;
     let mut i = 0;
@@ -926,7 +926,7 @@ fn indexed(
         let p1 = put(c, 23, j, out, p);
         let r = record(
             ws,
-            aliases,
+            notes,
             q,
             a,
             Count {
@@ -971,9 +971,9 @@ pub struct ClassPlan {
 }
 
 // The class of the statement at `at`; s is the state behind the class's children.
-fn plan(ws: &[u32], aliases: &[u8], at: usize, s: Count) -> ClassPlan
-    requires { ⌜ (length (now ws) ≤ 4096) × (at < length (now ws)) × (length (now ws) ≤ length (now aliases)) × (s .next + 1 < 67108864) × (s .default ≤ 67108864) ⌝ }
-    ensures { λ r. ⌜ PlanFrom (now (ws .entry)) (now (aliases .entry)) at s r ⌝ }
+fn plan(ws: &[u32], notes: &[u32], at: usize, s: Count) -> ClassPlan
+    requires { ⌜ (length (now ws) ≤ 4096) × (at < length (now ws)) × (length (now ws) ≤ length (now notes)) × (s .next + 1 < 67108864) × (s .default ≤ 67108864) ⌝ }
+    ensures { λ r. ⌜ PlanFrom (now (ws .entry)) (now (notes .entry)) at s r ⌝ }
 {
     let id = inspect::class_id(ws, at + 1);
     let decorated = inspect::check_class_has_decorated(ws, at + 1);
@@ -999,7 +999,7 @@ fn plan(ws: &[u32], aliases: &[u8], at: usize, s: Count) -> ClassPlan
             id,
             outer: id,
             inner: s.next,
-            alias: alias_of(aliases, at, s.next),
+            alias: alias_of(notes, at, s.next),
             decorated,
             private,
             fixed,
@@ -1019,11 +1019,11 @@ fn plan(ws: &[u32], aliases: &[u8], at: usize, s: Count) -> ClassPlan
 }
 
 // The alias of the class of the statement at `at`, whose inner symbol is n.
-fn alias_of(aliases: &[u8], at: usize, n: u32) -> u32
-    requires { ⌜ (at < length (now aliases)) × (n + 1 < 67108864) ⌝ }
-    ensures { λ r. ⌜ (optOf r ≡ cond (eqb (getD (now (aliases .entry)) at 0) 1) (optOf (n + 1)) (optOf 67108864)) × (r ≤ 67108864) ⌝ }
+fn alias_of(notes: &[u32], at: usize, n: u32) -> u32
+    requires { ⌜ (at < length (now notes)) × (n + 1 < 67108864) ⌝ }
+    ensures { λ r. ⌜ (optOf r ≡ cond (aliasIn (getD (now (notes .entry)) at 0)) (optOf (n + 1)) (optOf 67108864)) × (r ≤ 67108864) ⌝ }
 {
-    if aliases[at] == 1 {
+    if notes[at] % 2 == 1 {
         return n + 1;
     }
     NONE
@@ -1032,7 +1032,7 @@ fn alias_of(aliases: &[u8], at: usize, n: u32) -> u32
 // A class statement whose class is live.
 fn live_class(
     ws: &[u32],
-    aliases: &[u8],
+    notes: &[u32],
     at: usize,
     a: Scope,
     s: Count,
@@ -1040,15 +1040,15 @@ fn live_class(
     out: &mut [u32],
     pos: usize,
 ) -> Went
-    requires { ⌜ Asks (now ws) (now aliases) at 1 (s .next) c pos (size (hereAt (now ws) at 1 a s)) × (at < length (now ws)) × (labelAt (now ws) at .kind ≡ 4) × (isLive (takeF 1 (recordsAt (now ws) (at + 1))) ≡ true) ⌝ }
+    requires { ⌜ Asks (now ws) (now notes) at 1 (s .next) c pos (size (hereAt (now ws) at 1 a s)) × (at < length (now ws)) × (labelAt (now ws) at .kind ≡ 4) × (isLive (takeF 1 (recordsAt (now ws) (at + 1))) ≡ true) ⌝ }
     ensures { λ r. ⌜ Emitted (now (ws .entry)) at 1 a s c (now (out .entry)) pos (now (out .exit)) r ⌝ }
 {
-    let whole = counter::count_record(ws, aliases, at, a, s);
-    let g = plan_at(ws, aliases, at, s.next);
+    let whole = counter::count_record(ws, notes, at, a, s);
+    let g = plan_at(ws, notes, at, s.next);
     let p1 = class_head(inspect::payload_at(ws, at), g, c, out, pos);
-    let p2 = transform_class(ws, aliases, at, g, s.next, c, out, p1);
+    let p2 = transform_class(ws, notes, at, g, s.next, c, out, p1);
     if p2 <= out.len() {
-        let e = queue(ws, aliases, at, g, s.next, c, &mut out[p2..]);
+        let e = queue(ws, notes, at, g, s.next, c, &mut out[p2..]);
         return Went {
             at: whole.at,
             pos: p2 + e.pos,
@@ -1058,7 +1058,7 @@ fn live_class(
         };
     }
     let l = out.len();
-    let e = queue(ws, aliases, at, g, s.next, c, &mut out[l..]);
+    let e = queue(ws, notes, at, g, s.next, c, &mut out[l..]);
     Went {
         at: whole.at,
         pos: p2 + e.pos,
@@ -1069,14 +1069,14 @@ fn live_class(
 }
 
 // The plan of the class of the statement at `at`; n is the counter in front of it.
-fn plan_at(ws: &[u32], aliases: &[u8], at: usize, n: u32) -> ClassPlan
-    requires { ⌜ Ready (now ws) (now aliases) at n × (at < length (now ws)) × (labelAt (now ws) at .kind ≡ 4) × (isLive (takeF 1 (recordsAt (now ws) (at + 1))) ≡ true) ⌝ }
+fn plan_at(ws: &[u32], notes: &[u32], at: usize, n: u32) -> ClassPlan
+    requires { ⌜ Ready (now ws) (now notes) at n × (at < length (now ws)) × (labelAt (now ws) at .kind ≡ 4) × (isLive (takeF 1 (recordsAt (now ws) (at + 1))) ≡ true) ⌝ }
     ensures { λ r. ⌜ Plans (now (ws .entry)) at n r ⌝ }
 {
     let id = inspect::class_id(ws, at + 1);
     let r = counter::count_records(
         ws,
-        aliases,
+        notes,
         at + 1,
         1,
         Scope { live: true, id },
@@ -1087,7 +1087,7 @@ fn plan_at(ws: &[u32], aliases: &[u8], at: usize, n: u32) -> ClassPlan
     );
     plan(
         ws,
-        aliases,
+        notes,
         at,
         Count {
             next: r.next,
@@ -1126,7 +1126,7 @@ fn let_head(g: ClassPlan, c: ClassStack, out: &mut [u32], pos: usize) -> usize
 // The class of the statement at `at` as it stays; n is the counter in front of it.
 fn transform_class(
     ws: &[u32],
-    aliases: &[u8],
+    notes: &[u32],
     at: usize,
     g: ClassPlan,
     n: u32,
@@ -1134,7 +1134,7 @@ fn transform_class(
     out: &mut [u32],
     pos: usize,
 ) -> usize
-    requires { ⌜ Asks (now ws) (now aliases) at 1 n c pos (length (classWords (now ws) at n (wordBelow c))) × (at < length (now ws)) × (labelAt (now ws) at .kind ≡ 4) × (isLive (takeF 1 (recordsAt (now ws) (at + 1))) ≡ true) × Plans (now ws) at n g ⌝ }
+    requires { ⌜ Asks (now ws) (now notes) at 1 n c pos (length (classWords (now ws) at n (wordBelow c))) × (at < length (now ws)) × (labelAt (now ws) at .kind ≡ 4) × (isLive (takeF 1 (recordsAt (now ws) (at + 1))) ≡ true) × Plans (now ws) at n g ⌝ }
     ensures { λ r. ⌜ Wrote (now (out .entry)) pos (classWords (now (ws .entry)) at n (wordBelow c)) (now (out .exit)) r ⌝ }
 {
     let a = Scope {
@@ -1145,7 +1145,7 @@ fn transform_class(
     let p1 = class_words(g, p, c, out, pos);
     let own = counter::count_records(
         ws,
-        aliases,
+        notes,
         at + 2,
         1 + (p % 2) as usize,
         a,
@@ -1156,7 +1156,7 @@ fn transform_class(
     );
     let h = records(
         ws,
-        aliases,
+        notes,
         own.at,
         (p / 4 % 2) as usize,
         a,
@@ -1170,7 +1170,7 @@ fn transform_class(
     );
     class_body(
         ws,
-        aliases,
+        notes,
         h.at,
         g,
         Count {
@@ -1210,7 +1210,7 @@ fn class_flags(g: ClassPlan, p: u32) -> u32
 // The body at b; s is the state in front of it.
 fn class_body(
     ws: &[u32],
-    aliases: &[u8],
+    notes: &[u32],
     b: usize,
     g: ClassPlan,
     s: Count,
@@ -1218,20 +1218,20 @@ fn class_body(
     out: &mut [u32],
     pos: usize,
 ) -> usize
-    requires { ⌜ Asks (now ws) (now aliases) b 1 (s .next) c pos (length (bodyBy g c (now ws) b s)) × (b < length (now ws)) × (labelAt (now ws) b .kind ≡ 29) × (c .depth + 1 + nestAt (now ws) b 1 ≤ capacity) × (g .alias ≤ 67108864) × (g .decorated ≡ true → g .outer < 67108864) × (g .calls ≡ countF (callsAt (now ws) (b + 1) (arityAt (now ws) b) (scopeOf g) s)) × (g .decorated ≡ false → optOf (g .alias) ≡ none) × Below (s .next) (optOf (g .id)) × Below (s .next) (optOf (s .default)) ⌝ }
+    requires { ⌜ Asks (now ws) (now notes) b 1 (s .next) c pos (length (bodyBy g c (now ws) b s)) × (b < length (now ws)) × (labelAt (now ws) b .kind ≡ 29) × (c .depth + 1 + nestAt (now ws) b 1 ≤ capacity) × (g .alias ≤ 67108864) × (g .decorated ≡ true → g .outer < 67108864) × (g .calls ≡ countF (callsAt (now ws) (b + 1) (arityAt (now ws) b) (scopeOf g) s)) × (g .decorated ≡ false → optOf (g .alias) ≡ none) × Below (s .next) (optOf (g .id)) × Below (s .next) (optOf (s .default)) ⌝ }
     ensures { λ r. ⌜ Wrote (now (out .entry)) pos (bodyBy g c (now (ws .entry)) b s) (now (out .exit)) r ⌝ }
 {
     let n = inspect::children_at(ws, b) as u32 + front_count(g) + block_count(g);
     let p1 = put(c, 29, n, out, pos);
     let p2 = alias_block(g, c, out, p1);
-    let p3 = elements(ws, aliases, b, g, s, body_stack(g, c), out, p2);
+    let p3 = elements(ws, notes, b, g, s, body_stack(g, c), out, p2);
     if block_count(g) == 0 {
         return p3;
     }
     let p4 = put(c, 33, g.calls, out, p3);
     let r = calls(
         ws,
-        aliases,
+        notes,
         b + 1,
         inspect::children_at(ws, b),
         Scope {
@@ -1303,7 +1303,7 @@ fn alias_block(g: ClassPlan, c: ClassStack, out: &mut [u32], pos: usize) -> usiz
 // The elements of the body at b; those of a decorated class with the first constructor's decorators gone (rule 7).
 fn elements(
     ws: &[u32],
-    aliases: &[u8],
+    notes: &[u32],
     b: usize,
     g: ClassPlan,
     s: Count,
@@ -1311,7 +1311,7 @@ fn elements(
     out: &mut [u32],
     pos: usize,
 ) -> usize
-    requires { ⌜ Asks (now ws) (now aliases) b 1 (s .next) c pos (length (elementsBy g c (now ws) b s)) × (b < length (now ws)) × (labelAt (now ws) b .kind ≡ 29) ⌝ }
+    requires { ⌜ Asks (now ws) (now notes) b 1 (s .next) c pos (length (elementsBy g c (now ws) b s)) × (b < length (now ws)) × (labelAt (now ws) b .kind ≡ 29) ⌝ }
     ensures { λ r. ⌜ Wrote (now (out .entry)) pos (elementsBy g c (now (ws .entry)) b s) (now (out .exit)) r ⌝ }
 {
     let a = Scope {
@@ -1321,17 +1321,17 @@ fn elements(
     let k = inspect::children_at(ws, b);
     let j = inspect::first_constructor(ws, b + 1, k);
     if !g.decorated {
-        let r = records(ws, aliases, b + 1, k, a, s, c, out, pos);
+        let r = records(ws, notes, b + 1, k, a, s, c, out, pos);
         return r.pos;
     }
     if k <= j {
-        let r = records(ws, aliases, b + 1, k, a, s, c, out, pos);
+        let r = records(ws, notes, b + 1, k, a, s, c, out, pos);
         return r.pos;
     }
-    let f = records(ws, aliases, b + 1, j, a, s, c, out, pos);
+    let f = records(ws, notes, b + 1, j, a, s, c, out, pos);
     let m = member(
         ws,
-        aliases,
+        notes,
         f.at,
         a,
         Count {
@@ -1344,7 +1344,7 @@ fn elements(
     );
     let r = records(
         ws,
-        aliases,
+        notes,
         m.at,
         k - j - 1,
         a,
@@ -1368,14 +1368,14 @@ pub struct Queued {
 // Rule 10: what stands behind the statement at `at`, from the start of its part of the output; n is the counter in front of the class.
 fn queue(
     ws: &[u32],
-    aliases: &[u8],
+    notes: &[u32],
     at: usize,
     g: ClassPlan,
     n: u32,
     c: ClassStack,
     out: &mut [u32],
 ) -> Queued
-    requires { ⌜ Asks (now ws) (now aliases) at 1 n c 0 (length (queueWords (now ws) at n (wordBelow c))) × (at < length (now ws)) × (labelAt (now ws) at .kind ≡ 4) × (isLive (takeF 1 (recordsAt (now ws) (at + 1))) ≡ true) × Plans (now ws) at n g ⌝ }
+    requires { ⌜ Asks (now ws) (now notes) at 1 n c 0 (length (queueWords (now ws) at n (wordBelow c))) × (at < length (now ws)) × (labelAt (now ws) at .kind ≡ 4) × (isLive (takeF 1 (recordsAt (now ws) (at + 1))) ≡ true) × Plans (now ws) at n g ⌝ }
     ensures { λ r. ⌜ Wrote (now (out .entry)) 0 (queueWords (now (ws .entry)) at n (wordBelow c)) (now (out .exit)) (r .pos) × (r .count ≡ queueCount (now (ws .entry)) at n) ⌝ }
 {
     if g.private {
@@ -1387,7 +1387,7 @@ fn queue(
     };
     let own = counter::count_records(
         ws,
-        aliases,
+        notes,
         at + 2,
         inspect::children_at(ws, at + 1) - 1,
         a,
@@ -1402,7 +1402,7 @@ fn queue(
     };
     let r = calls(
         ws,
-        aliases,
+        notes,
         own.at + 1,
         inspect::children_at(ws, own.at),
         a,
@@ -1417,7 +1417,7 @@ fn queue(
             count: r.count,
         };
     }
-    let p = create_assignment(ws, aliases, at, own.at, g, n, s, c, out, r.pos);
+    let p = create_assignment(ws, notes, at, own.at, g, n, s, c, out, r.pos);
     let x = inspect::payload_at(ws, at);
     let q = create_export(x, g.outer, c, out, p);
     Queued {
@@ -1452,7 +1452,7 @@ fn export_count(x: u32) -> u32
 // Rule 7: the class assignment of the statement at `at` with the body at b; n is the counter in front of the class, s the state in front of its body.
 fn create_assignment(
     ws: &[u32],
-    aliases: &[u8],
+    notes: &[u32],
     at: usize,
     b: usize,
     g: ClassPlan,
@@ -1462,7 +1462,7 @@ fn create_assignment(
     out: &mut [u32],
     pos: usize,
 ) -> usize
-    requires { ⌜ Asks (now ws) (now aliases) at 1 n c pos (length (assignmentBy g c (now ws) (ds (now ws) at n) b s)) × (at < length (now ws)) × (labelAt (now ws) at .kind ≡ 4) × (isLive (takeF 1 (recordsAt (now ws) (at + 1))) ≡ true) × Plans (now ws) at n g × (g .decorated ≡ true) × (b ≡ bodyAt (now ws) at) × (stateIn s ≡ atBody (now ws) at n) ⌝ }
+    requires { ⌜ Asks (now ws) (now notes) at 1 n c pos (length (assignmentBy g c (now ws) (ds (now ws) at n) b s)) × (at < length (now ws)) × (labelAt (now ws) at .kind ≡ 4) × (isLive (takeF 1 (recordsAt (now ws) (at + 1))) ≡ true) × Plans (now ws) at n g × (g .decorated ≡ true) × (b ≡ bodyAt (now ws) at) × (stateIn s ≡ atBody (now ws) at n) ⌝ }
     ensures { λ r. ⌜ Wrote (now (out .entry)) pos (assignmentBy g c (now (ws .entry)) (ds (now (ws .entry)) at n) b s) (now (out .exit)) r ⌝ }
 {
     let p1 = assignment_head(g, c, out, pos);
@@ -1472,7 +1472,7 @@ fn create_assignment(
     };
     let own = records(
         ws,
-        aliases,
+        notes,
         at + 3,
         inspect::children_at(ws, at + 2),
         a,
@@ -1484,7 +1484,7 @@ fn create_assignment(
         out,
         p1 + 1,
     );
-    let e = first_entries(ws, aliases, b, g, s, body_stack(g, c), out, own.pos);
+    let e = first_entries(ws, notes, b, g, s, body_stack(g, c), out, own.pos);
     put(c, 16, own.count + e.count, out, p1);
     put(c, 9, g.outer, out, e.pos)
 }
@@ -1503,7 +1503,7 @@ fn assignment_head(g: ClassPlan, c: ClassStack, out: &mut [u32], pos: usize) -> 
 // The decorators of the first constructor's parameters in the body at b.
 fn first_entries(
     ws: &[u32],
-    aliases: &[u8],
+    notes: &[u32],
     b: usize,
     g: ClassPlan,
     s: Count,
@@ -1511,7 +1511,7 @@ fn first_entries(
     out: &mut [u32],
     pos: usize,
 ) -> Queued
-    requires { ⌜ Asks (now ws) (now aliases) b 1 (s .next) c pos (size (firstBy g c (now ws) b s)) × (b < length (now ws)) × (labelAt (now ws) b .kind ≡ 29) ⌝ }
+    requires { ⌜ Asks (now ws) (now notes) b 1 (s .next) c pos (size (firstBy g c (now ws) b s)) × (b < length (now ws)) × (labelAt (now ws) b .kind ≡ 29) ⌝ }
     ensures { λ r. ⌜ Wrote (now (out .entry)) pos (wordsOf c (firstBy g c (now (ws .entry)) b s)) (now (out .exit)) (r .pos) × (r .count ≡ countF (firstBy g c (now (ws .entry)) b s)) ⌝ }
 {
     let a = Scope {
@@ -1523,10 +1523,10 @@ fn first_entries(
     if k <= j {
         return Queued { pos, count: 0 };
     }
-    let f = counter::count_records(ws, aliases, b + 1, j, a, s);
+    let f = counter::count_records(ws, notes, b + 1, j, a, s);
     let h = counter::count_records(
         ws,
-        aliases,
+        notes,
         f.at + 1,
         2,
         a,
@@ -1537,7 +1537,7 @@ fn first_entries(
     );
     let r = transform_decorators_of_parameters(
         ws,
-        aliases,
+        notes,
         h.at,
         a,
         Count {

@@ -6,6 +6,7 @@ pub mod Kinds
 pub mod Single
 pub mod Roles
 pub mod Quiet
+pub mod Around
 pub mod Elements
 pub mod Members
 pub mod Calls

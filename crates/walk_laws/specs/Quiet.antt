@@ -48,14 +48,14 @@ quiet-slots (r ∷ rs) t =
     (quiet-slots rs (test-right (quiet (r .slot .category)) (quietRuns rs) t))
 
 -- a class has its own calls
-unfoldable hasClass : ℕ → Bool
+unfoldable pub hasClass : ℕ → Bool
 hasClass k = eqb k 4 || eqb k 20
 
 -- what stands below a record in such a slot, or below an element
 unfoldable quietRow : ℕ → ℕ → ℕ → Row → Bool
 quietRow x p k r = cond ((quiet (r .category) || eqb (r .category) Element) && not (hasClass k)) (quietRuns (r .below x p)) true
 
-quiet-below : (q : Slot) (k p : ℕ) → (quiet (rowOf k .category) || eqb (rowOf k .category) Element) ≡ true → not (hasClass k) ≡ true → Quiet (slotsBelow q k p)
+pub quiet-below : (q : Slot) (k p : ℕ) → (quiet (rowOf k .category) || eqb (rowOf k .category) Element) ≡ true → not (hasClass k) ≡ true → Quiet (slotsBelow q k p)
 unfolding slotsBelow each table row noRow leaf expressions oneExpression statements quietRow quietRuns quiet hasClass lookup
 quiet-below q k p e n =
     quiet-slots (rowOf k .below (q .context) p)
@@ -64,18 +64,18 @@ quiet-below q k p e n =
 unfoldable noMember : ℕ → Origin → ℕ → Row → Bool
 noMember p o k r = cond (quiet (r .category)) (not (isMember (record { kind = k; payload = p; from = o }))) true
 
-quiet-member : (l : Label) → quiet (rowOf (l .kind) .category) ≡ true → isMember l ≡ false
+pub quiet-member : (l : Label) → quiet (rowOf (l .kind) .category) ≡ true → isMember l ≡ false
 unfolding each table row noRow noMember quiet isMember is lookup
 quiet-member l e = not-true (isMember l) (T-true (not (isMember l)) (implied (quiet (rowOf (l .kind) .category)) (not (isMember l)) (each-row (noMember (l .payload) (l .from)) tt (l .kind) tt) e))
 
-no-member : (l : Label) (k : Trees) → isMember l ≡ false → isDecoratedMember l k ≡ false
+pub no-member : (l : Label) (k : Trees) → isMember l ≡ false → isDecoratedMember l k ≡ false
 unfolding isDecoratedMember
 no-member l k e = rw e
 
 unfoldable noClass : ℕ → Row → Bool
 noClass k r = cond (eqb (r .category) Element) (not (hasClass k)) true
 
-element-class : (k : ℕ) → rowOf k .category ≡ Element → not (hasClass k) ≡ true
+pub element-class : (k : ℕ) → rowOf k .category ≡ Element → not (hasClass k) ≡ true
 unfolding each table row noRow noClass hasClass
 element-class k e = T-true (not (hasClass k)) (implied (eqb (rowOf k .category) Element) (not (hasClass k)) (each-row noClass tt k tt) (eq-eqb (rowOf k .category) Element e))
 

@@ -356,10 +356,10 @@ report-record-returns-6 t c =
     (reports-count (c .before .before .before .before .children-at .ensures .0) (c .before .before .report-records .ensures))
 
 abbrev report-records-Inv-loop : report-records-lts.InvT-loop
-report-records-Inv-loop ws aliases at k a out₀ pos q₀ p₀ i₀ n₀ d₀ out q p i n d = (q ≤ length ws) × (i ≤ k) × (length out ≡ length out₀) × Reports ws at i a n₀ d₀ out₀ pos out (record { at = q; pos = p; next = n; default = d })
+report-records-Inv-loop ws notes at k a out₀ pos q₀ p₀ i₀ n₀ d₀ out q p i n d = (q ≤ length ws) × (i ≤ k) × (length out ≡ length out₀) × Reports ws at i a n₀ d₀ out₀ pos out (record { at = q; pos = p; next = n; default = d })
 
 abbrev report-records-μ-loop : report-records-lts.MeasureT-loop
-report-records-μ-loop ws aliases at k a out₀ pos q₀ p₀ i₀ n₀ d₀ out q p i n d = k - i
+report-records-μ-loop ws notes at k a out₀ pos q₀ p₀ i₀ n₀ d₀ out q p i n d = k - i
 
 report-records-loop-holds : (t : ℕ) → report-records-lts.Need-loop-holds (report-records-uses t) (report-records-at t) report-records.Post report-records-Inv-loop report-records-μ-loop
 report-records-loop-holds t c =

@@ -11,7 +11,7 @@ use Rattle.symbol_report.proofs.report.Statement.{statement}
 use Rattle.symbol_report.proofs.report.Tie as tie
 use Rattle.symbol_report.proofs.report.Reads as reads
 use Rattle.symbol_report.proofs.report.Lts as lts
-use Rattle.alias_table.proofs.find_aliases.Reads as find-aliases-reads
+use Rattle.alias_table.proofs.find_aliases.Reads as find-notes-reads
 use Rattle.inspect.proofs.payload_at.Reads as payload-at-reads
 use Rattle.rewriter.proofs.turned_back.Reads as turned-back-reads
 use Rattle.symbol_report.proofs.write_report.Reads as write-report-reads
@@ -29,12 +29,12 @@ returns c =
     (n, report-back (g .ws .now) (g .out .now) (record { code = c .before .turned-back .result; written = 0; fresh = 0 }) n (c .if1 .taken))
 
 -- src/lib.rt:28:35
-slice-aggregate-find-aliases : tie.Need-slice-aggregate-find-aliases
-slice-aggregate-find-aliases c = search needs
+slice-aggregate-find-notes : tie.Need-slice-aggregate-find-notes
+slice-aggregate-find-notes c = search needs
 
 -- src/lib.rt:28:5
-find-aliases-requires : tie.Need-find-aliases-requires
-find-aliases-requires c κs =
+find-notes-requires : tie.Need-find-notes-requires
+find-notes-requires c κs =
     let ok = not-turned-back (c .before .before .before .before .before .args .ws .now) (sym (c .before .before .turned-back .ensures) ∙ c .before .if1 .left) in
     (omega (arith, well (c .before .before .before .before .before .args .ws .now) ok .sized .few), start-fits (c .before .before .before .before .before .args .ws .now) ok)
 
@@ -48,7 +48,7 @@ slice-aggregate-write-report-2 c = search needs
 
 -- src/lib.rt:30:9
 write-report-requires : tie.Need-write-report-requires
-write-report-requires c κs = (not-turned-back (c .before .before .before .before .before .before .before .before .before .args .ws .now) (sym (c .before .before .before .before .before .before .turned-back .ensures) ∙ c .before .before .before .before .before .if1 .left), c .before .before .before .find-aliases .ensures .0)
+write-report-requires c κs = (not-turned-back (c .before .before .before .before .before .before .before .before .before .args .ws .now) (sym (c .before .before .before .before .before .before .turned-back .ensures) ∙ c .before .before .before .before .before .if1 .left), c .before .before .before .find-notes .ensures .0)
 
 -- src/lib.rt:32:9
 returns-2 : tie.Need-returns-2
@@ -65,7 +65,7 @@ slice-aggregate-write-report-3 c = search needs
 
 -- src/lib.rt:38:9
 write-report-requires-2 : tie.Need-write-report-requires-2
-write-report-requires-2 c κs = (not-turned-back (c .before .before .before .before .before .before .before .before .before .before .before .before .before .before .before .args .ws .now) (sym (c .before .before .before .before .before .before .before .before .before .before .before .before .turned-back .ensures) ∙ c .before .before .before .before .before .before .before .before .before .before .before .if1 .left), c .before .before .before .before .before .before .before .before .before .find-aliases .ensures .0)
+write-report-requires-2 c κs = (not-turned-back (c .before .before .before .before .before .before .before .before .before .before .before .before .before .before .before .args .ws .now) (sym (c .before .before .before .before .before .before .before .before .before .before .before .before .turned-back .ensures) ∙ c .before .before .before .before .before .before .before .before .before .before .before .if1 .left), c .before .before .before .before .before .before .before .before .before .find-notes .ensures .0)
 
 -- src/lib.rt:42:25
 payload-at-requires : tie.Need-payload-at-requires
@@ -93,8 +93,8 @@ report-spec =
     (tie.spec
     turned-back-requires
     returns
-    slice-aggregate-find-aliases
-    find-aliases-requires
+    slice-aggregate-find-notes
+    find-notes-requires
     slice-aggregate-write-report
     slice-aggregate-write-report-2
     write-report-requires

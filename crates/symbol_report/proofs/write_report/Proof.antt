@@ -18,7 +18,7 @@ payload-at-requires c κs = search needs
 report-record-requires : tie.Need-report-record-requires
 report-record-requires c κs =
     let ws = c .before .before .before .before .before .args .ws .now in
-    (start-asks ws (c .before .before .before .before .before .pre .0) (c .before .before .before .before .before .args .aliases .now) (c .before .before .before .before .before .pre .1) (c .before .payload-at .result) (c .before .payload-at .ensures .0 ∙ symbols-word ws), start-inside ws (c .before .before .before .before .before .pre .0))
+    (start-asks ws (c .before .before .before .before .before .pre .0) (c .before .before .before .before .before .args .notes .now) (c .before .before .before .before .before .pre .1) (c .before .payload-at .result) (c .before .payload-at .ensures .0 ∙ symbols-word ws), start-inside ws (c .before .before .before .before .before .pre .0))
 
 -- src/lib.rt:47:1
 same-length : tie.Need-same-length

@@ -651,10 +651,10 @@ call-returns-2 t c =
     queue-call (g .ws .now) (p .0 .ready .whole) (g .at) (p .1) (g .a) (g .s) (g .c) (p .3) d (c .before .before .before .before .before .before .before .before .before .before .before .before .before .before .before .before .before .before .before .before .before .before .count-record .ensures) (c .before .before .before .before .before .before .before .before .before .before .before .before .before .before .put2 .result) (c .before .before .before .before .before .before .before .before .before .before .entries .result .pos) (c .before .before .before .before .before .before .before .before .before .before .entries .result .count) (c .before .before .before .before .before .before .before .before .before .before .before .before .before .before .before .before .before .before .put .ensures) (c .before .before .before .before .before .before .before .before .before .before .before .before .before .before .put2 .ensures) (c .before .before .before .before .before .before .before .before .before .before .entries .ensures .0) (c .before .before .before .before .before .before .before .before .before .before .entries .ensures .1) (c .before .before .before .before .before .before .put3 .ensures) (c .before .before .arguments .ensures)
 
 abbrev calls-Inv-loop : calls-lts.InvT-loop
-calls-Inv-loop ws aliases at k a c out₀ pos q₀ i₀ p₀ n₀ d₀ m₀ out q i p n d m = (i ≤ k) × Queues ws at i a (record { next = n₀; default = d₀ }) c out₀ p₀ out (record { at = q; pos = p; next = n; default = d; count = m })
+calls-Inv-loop ws notes at k a c out₀ pos q₀ i₀ p₀ n₀ d₀ m₀ out q i p n d m = (i ≤ k) × Queues ws at i a (record { next = n₀; default = d₀ }) c out₀ p₀ out (record { at = q; pos = p; next = n; default = d; count = m })
 
 abbrev calls-μ-loop : calls-lts.MeasureT-loop
-calls-μ-loop ws aliases at k a c out₀ pos q₀ i₀ p₀ n₀ d₀ m₀ out q i p n d m = k - i
+calls-μ-loop ws notes at k a c out₀ pos q₀ i₀ p₀ n₀ d₀ m₀ out q i p n d m = k - i
 
 calls-loop-holds :
     (t : ℕ) →
@@ -848,7 +848,7 @@ class-body-calls-requires t c κs =
     let n = c .before .children-at2 .ensures .0 in (
       omega (arith, c .before .before .before .before .before .before .before .before .before .before .before .before .before .before .before .before .before .before .before .before .before .before .before .before .before .before .before .pre .0, p .1),
       (
-        subst (λ (j : ℕ). Asks (c .before .before .before .before .before .before .before .before .before .before .before .before .before .before .before .before .before .before .before .before .before .before .before .before .before .before .before .args .ws .now) (c .before .before .before .before .before .before .before .before .before .before .before .before .before .before .before .before .before .before .before .before .before .before .before .before .before .before .before .args .aliases .now) (c .before .before .before .before .before .before .before .before .before .before .before .before .before .before .before .before .before .before .before .before .before .before .before .before .before .before .before .args .b + 1) j (c .before .before .before .before .before .before .before .before .before .before .before .before .before .before .before .before .before .before .before .before .before .before .before .before .before .before .before .args .s .next) (c .before .before .before .before .before .before .before .before .before .before .before .before .before .before .before .before .before .before .before .before .before .before .before .before .before .before .before .args .c) (c .before .before .before .before .put2 .result) (size (callsAt (c .before .before .before .before .before .before .before .before .before .before .before .before .before .before .before .before .before .before .before .before .before .before .before .before .before .before .before .args .ws .now) (c .before .before .before .before .before .before .before .before .before .before .before .before .before .before .before .before .before .before .before .before .before .before .before .before .before .before .before .args .b + 1) j (scopeOf (c .before .before .before .before .before .before .before .before .before .before .before .before .before .before .before .before .before .before .before .before .before .before .before .before .before .before .before .args .g)) (c .before .before .before .before .before .before .before .before .before .before .before .before .before .before .before .before .before .before .before .before .before .before .before .before .before .before .before .args .s)))) (sym n)
+        subst (λ (j : ℕ). Asks (c .before .before .before .before .before .before .before .before .before .before .before .before .before .before .before .before .before .before .before .before .before .before .before .before .before .before .before .args .ws .now) (c .before .before .before .before .before .before .before .before .before .before .before .before .before .before .before .before .before .before .before .before .before .before .before .before .before .before .before .args .notes .now) (c .before .before .before .before .before .before .before .before .before .before .before .before .before .before .before .before .before .before .before .before .before .before .before .before .before .before .before .args .b + 1) j (c .before .before .before .before .before .before .before .before .before .before .before .before .before .before .before .before .before .before .before .before .before .before .before .before .before .before .before .args .s .next) (c .before .before .before .before .before .before .before .before .before .before .before .before .before .before .before .before .before .before .before .before .before .before .before .before .before .before .before .args .c) (c .before .before .before .before .put2 .result) (size (callsAt (c .before .before .before .before .before .before .before .before .before .before .before .before .before .before .before .before .before .before .before .before .before .before .before .before .before .before .before .args .ws .now) (c .before .before .before .before .before .before .before .before .before .before .before .before .before .before .before .before .before .before .before .before .before .before .before .before .before .before .before .args .b + 1) j (scopeOf (c .before .before .before .before .before .before .before .before .before .before .before .before .before .before .before .before .before .before .before .before .before .before .before .before .before .before .before .args .g)) (c .before .before .before .before .before .before .before .before .before .before .before .before .before .before .before .before .before .before .before .before .before .before .before .before .before .before .before .args .s)))) (sym n)
             (asks-kids (p .0) (c .before .before .before .before .put2 .result) (size (callsAt (c .before .before .before .before .before .before .before .before .before .before .before .before .before .before .before .before .before .before .before .before .before .before .before .before .before .before .before .args .ws .now) (c .before .before .before .before .before .before .before .before .before .before .before .before .before .before .before .before .before .before .before .before .before .before .before .before .before .before .before .args .b + 1) (arityAt (c .before .before .before .before .before .before .before .before .before .before .before .before .before .before .before .before .before .before .before .before .before .before .before .before .before .before .before .args .ws .now) (c .before .before .before .before .before .before .before .before .before .before .before .before .before .before .before .before .before .before .before .before .before .before .before .before .before .before .before .args .b)) (scopeOf (c .before .before .before .before .before .before .before .before .before .before .before .before .before .before .before .before .before .before .before .before .before .before .before .before .before .before .before .args .g)) (c .before .before .before .before .before .before .before .before .before .before .before .before .before .before .before .before .before .before .before .before .before .before .before .before .before .before .before .args .s))) refl (p .1)
             (omega (arith, body-room (c .before .before .before .before .before .before .before .before .before .before .before .before .before .before .before .before .before .before .before .before .before .before .before .before .before .before .before .args .g) (c .before .before .before .before .before .before .before .before .before .before .before .before .before .before .before .before .before .before .before .before .before .before .before .before .before .before .before .args .s) (p .0) (c .before .before .before .before .before .before .before .before .before .before .before .before .body-stack .result) (r .2), block-room (c .before .before .before .before .before .before .before .before .before .before .before .before .before .before .before .before .before .before .before .before .before .before .before .before .before .before .before .args .g) (c .before .before .before .before .before .before .before .before .before .before .before .before .before .before .before .before .before .before .before .before .before .before .before .before .before .before .before .args .s) (p .0) (c .before .before .before .before .before .before .before .before .before .before .before .before .body-stack .result) (r .2) y, c .before .before .before .before .put2 .ensures .end, c .before .before .before .before .before .before .before .before .before .before .elements .ensures .end, c .before .before .before .before .before .before .before .before .before .before .before .before .before .before .before .alias-block .ensures .end, c .before .before .before .before .before .before .before .before .before .before .before .before .before .before .before .before .before .before .before .put .ensures .end))),
         body-fits (c .before .before .before .before .before .before .before .before .before .before .before .before .before .before .before .before .before .before .before .before .before .before .before .before .before .before .before .args .ws .now) (p .0 .ready .whole) (c .before .before .before .before .before .before .before .before .before .before .before .before .before .before .before .before .before .before .before .before .before .before .before .before .before .before .before .args .b) (c .before .children-at2 .result) (p .1) (p .2) n,
@@ -1106,7 +1106,7 @@ entries-records-requires t c κs =
     let m = entries-marked (g .ws .now) w (g .at) (p .1) (g .a) (g .s) (g .c) (p .3) in
     let t = own-fit (g .ws .now) w (g .at) (p .1) (g .a) (g .s) (g .c) (p .3) in (
       omega (arith, c .before .before .before .before .before .pre .0, m .place),
-      subst (λ (k : ℕ). Asks (g .ws .now) (g .aliases .now) (g .at + 2) k (g .s .next) (g .c) (g .pos) (size (hereAt (g .ws .now) (g .at + 2) k (g .a) (g .s)))) (sym (c .before .children-at .ensures .0))
+      subst (λ (k : ℕ). Asks (g .ws .now) (g .notes .now) (g .at + 2) k (g .s .next) (g .c) (g .pos) (size (hereAt (g .ws .now) (g .at + 2) k (g .a) (g .s)))) (sym (c .before .children-at .ensures .0))
           (asks-marked (p .0) (g .pos) (size (hereAt (g .ws .now) (g .at + 2) (arityAt (g .ws .now) (g .at + 1)) (g .a) (g .s))) (p .1) m (omega (arith, t, p .0 .fit))),
     )
 
@@ -1248,10 +1248,10 @@ first-entries-returns-2 t c =
     entries-wrote (c .before .before .before .before .before .before .before .before .before .before .before .before .before .args .g) (c .before .before .before .before .before .before .before .before .before .before .before .before .before .args .s) (p .0) (p .1) (p .2) (c .before .before .before .before .before .before .before .before .first-constructor .result) n (c .before .before .before .before .before .before .count-records .ensures) (c .before .before .before .before .count-records2 .ensures) (e .0) (e .1)
 
 abbrev indexed-Inv-loop : indexed-lts.InvT-loop
-indexed-Inv-loop ws aliases at j a c out₀ pos whole k q₀ i₀ p₀ n₀ d₀ out q i p n d = (i ≤ k) × Gives (indexed′ j) ws q₀ i a (record { next = n₀; default = d₀ }) c out₀ p₀ out (record { at = q; pos = p; next = n; default = d; count = i })
+indexed-Inv-loop ws notes at j a c out₀ pos whole k q₀ i₀ p₀ n₀ d₀ out q i p n d = (i ≤ k) × Gives (indexed′ j) ws q₀ i a (record { next = n₀; default = d₀ }) c out₀ p₀ out (record { at = q; pos = p; next = n; default = d; count = i })
 
 abbrev indexed-μ-loop : indexed-lts.MeasureT-loop
-indexed-μ-loop ws aliases at j a c out₀ pos whole k q₀ i₀ p₀ n₀ d₀ out q i p n d = k - i
+indexed-μ-loop ws notes at j a c out₀ pos whole k q₀ i₀ p₀ n₀ d₀ out q i p n d = k - i
 
 indexed-count-record-requires : (t : ℕ) → indexed-lts.Need-count-record-requires (indexed-uses t) (indexed-at t) indexed.Post indexed-Inv-loop indexed-μ-loop
 indexed-count-record-requires t c κs = (c .before .before .before .pre .1 .0 .ready, c .before .before .before .pre .1 .1)
@@ -1339,7 +1339,7 @@ kept-records-requires t c κs =
     let f = c .before .before .before .before .before .before .before .before .before .before .before .pre .1 in
     let n = c .before .children-at .ensures .0 in (
       omega (arith, c .before .before .before .before .before .before .before .before .before .before .before .pre .0, f .1),
-      subst (λ (j : ℕ). Asks (g .ws .now) (g .aliases .now) (g .at + 1) j (g .s .next) (g .c) (c .before .before .before .before .put .result) (size (hereAt (g .ws .now) (g .at + 1) j (g .a) (g .s)))) (sym n)
+      subst (λ (j : ℕ). Asks (g .ws .now) (g .notes .now) (g .at + 1) j (g .s .next) (g .c) (c .before .before .before .before .put .result) (size (hereAt (g .ws .now) (g .at + 1) j (g .a) (g .s)))) (sym n)
           (asks-kids (f .0) (c .before .before .before .before .put .result) (size (hereAt (g .ws .now) (g .at + 1) (arityAt (g .ws .now) (g .at)) (g .a) (g .s))) refl (f .1) (omega (arith, f .0 .fit, kept-size (g .ws .now) (g .at) (g .a) (g .s) (g .c) (f .1) (f .2), c .before .before .before .before .put .ensures .end))),
     )
 
@@ -1367,7 +1367,7 @@ list-records-requires t c κs =
     let f = c .before .before .before .before .before .pre .1 in
     let n = c .before .children-at .ensures .0 in (
       omega (arith, c .before .before .before .before .before .pre .0, f .1),
-      subst (λ (j : ℕ). Asks (g .ws .now) (g .aliases .now) (g .at + 1) j (g .s .next) (g .c) (g .pos + 1) (size (hereAt (g .ws .now) (g .at + 1) j (g .a) (g .s)))) (sym n)
+      subst (λ (j : ℕ). Asks (g .ws .now) (g .notes .now) (g .at + 1) j (g .s .next) (g .c) (g .pos + 1) (size (hereAt (g .ws .now) (g .at + 1) j (g .a) (g .s)))) (sym n)
           (asks-kids (f .0) (g .pos + 1) (size (hereAt (g .ws .now) (g .at + 1) (arityAt (g .ws .now) (g .at)) (g .a) (g .s))) refl (f .1) (omega (arith, f .0 .fit, list-size (g .ws .now) (g .at) (g .a) (g .s) (g .c) (f .1) (f .2)))),
     )
 
@@ -1571,10 +1571,10 @@ parameter-returns t c =
     moved-parameter (g .ws .now) (g .at) (g .a) (g .s) (g .c) (p .0 .ready .whole) (p .1) (p .2) (c .before .before .before .before .before .before .before .before .before .before .before .before .before .before .count-record .ensures) _ (c .before .before .before .before .children-at .ensures .0) _ (c .before .before .before .before .before .before .before .before .before .before .before .before .before .payload-at .ensures .0) (c .before .before .before .before .before .before .before .before .before .before .before .put .ensures) (c .before .before .before .before .before .before .before .put2 .ensures) (c .before .before .records .ensures)
 
 abbrev parameters-Inv-loop : parameters-lts.InvT-loop
-parameters-Inv-loop ws aliases at a c out₀ pos k p₀ q₀ i₀ n₀ d₀ out p q i n d = (i ≤ k) × Bared ws (at + 1) i a (record { next = n₀; default = d₀ }) c out₀ p₀ out (record { at = q; pos = p; next = n; default = d; count = 1 })
+parameters-Inv-loop ws notes at a c out₀ pos k p₀ q₀ i₀ n₀ d₀ out p q i n d = (i ≤ k) × Bared ws (at + 1) i a (record { next = n₀; default = d₀ }) c out₀ p₀ out (record { at = q; pos = p; next = n; default = d; count = 1 })
 
 abbrev parameters-μ-loop : parameters-lts.MeasureT-loop
-parameters-μ-loop ws aliases at a c out₀ pos k p₀ q₀ i₀ n₀ d₀ out p q i n d = k - i
+parameters-μ-loop ws notes at a c out₀ pos k p₀ q₀ i₀ n₀ d₀ out p q i n d = k - i
 
 parameters-children-at-requires : (t : ℕ) → parameters-lts.Need-children-at-requires (parameters-uses t) (parameters-at t) parameters.Post parameters-Inv-loop parameters-μ-loop
 parameters-children-at-requires t c κs = search needs
@@ -1647,7 +1647,7 @@ program-records-requires t c κs =
     let f = c .before .before .before .before .before .pre .1 in
     let n = c .before .payload-at .ensures .0 in (
       omega (arith, c .before .before .before .before .before .pre .0, f .1, module-inside (g .ws .now) (g .at) (g .a) (g .s) (g .c) (f .1) (f .0 .ready .whole) (f .2)),
-      subst (λ (j : ℕ). Asks (g .ws .now) (g .aliases .now) (g .at + 2) j (g .s .next) (g .c) (g .pos + 2) (size (hereAt (g .ws .now) (g .at + 2) j (g .a) (g .s)))) (sym n)
+      subst (λ (j : ℕ). Asks (g .ws .now) (g .notes .now) (g .at + 2) j (g .s .next) (g .c) (g .pos + 2) (size (hereAt (g .ws .now) (g .at + 2) j (g .a) (g .s)))) (sym n)
           (module-asks (g .ws .now) (g .at) (g .a) (g .s) (g .c) (f .1) (f .0 .ready .whole) (f .2) (f .0)),
     )
 
@@ -1963,10 +1963,10 @@ record-returns-11 : (t : ℕ) → record-lts.Need-returns-11 (record-uses t) (re
 record-returns-11 t c = c .before .before .kept2 .ensures
 
 abbrev records-Inv-loop : records-lts.InvT-loop
-records-Inv-loop ws aliases at k a c out₀ pos q₀ i₀ p₀ n₀ d₀ m₀ out q i p n d m = (q ≤ length ws) × (i ≤ k) × (length out ≡ length out₀) × Emitted ws at i a (record { next = n₀; default = d₀ }) c out₀ pos out (record { at = q; pos = p; next = n; default = d; count = m })
+records-Inv-loop ws notes at k a c out₀ pos q₀ i₀ p₀ n₀ d₀ m₀ out q i p n d m = (q ≤ length ws) × (i ≤ k) × (length out ≡ length out₀) × Emitted ws at i a (record { next = n₀; default = d₀ }) c out₀ pos out (record { at = q; pos = p; next = n; default = d; count = m })
 
 abbrev records-μ-loop : records-lts.MeasureT-loop
-records-μ-loop ws aliases at k a c out₀ pos q₀ i₀ p₀ n₀ d₀ m₀ out q i p n d m = k - i
+records-μ-loop ws notes at k a c out₀ pos q₀ i₀ p₀ n₀ d₀ m₀ out q i p n d m = k - i
 
 records-loop-holds :
     (t : ℕ) →
@@ -2158,11 +2158,11 @@ transform-class-returns t c =
 
 abbrev transform-decorators-of-parameters-Inv-loop :
     transform-decorators-of-parameters-lts.InvT-loop
-transform-decorators-of-parameters-Inv-loop ws aliases at a c out₀ pos k q₀ i₀ p₀ n₀ d₀ m₀ out q i p n d m = (i ≤ k) × Gives (ofParameters 0) ws q₀ i a (record { next = n₀; default = d₀ }) c out₀ p₀ out (record { at = q; pos = p; next = n; default = d; count = m })
+transform-decorators-of-parameters-Inv-loop ws notes at a c out₀ pos k q₀ i₀ p₀ n₀ d₀ m₀ out q i p n d m = (i ≤ k) × Gives (ofParameters 0) ws q₀ i a (record { next = n₀; default = d₀ }) c out₀ p₀ out (record { at = q; pos = p; next = n; default = d; count = m })
 
 abbrev transform-decorators-of-parameters-μ-loop :
     transform-decorators-of-parameters-lts.MeasureT-loop
-transform-decorators-of-parameters-μ-loop ws aliases at a c out₀ pos k q₀ i₀ p₀ n₀ d₀ m₀ out q i p n d m = k - i
+transform-decorators-of-parameters-μ-loop ws notes at a c out₀ pos k q₀ i₀ p₀ n₀ d₀ m₀ out q i p n d m = k - i
 
 transform-decorators-of-parameters-children-at-requires :
     (t : ℕ) → transform-decorators-of-parameters-lts.Need-children-at-requires (

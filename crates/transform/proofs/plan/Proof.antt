@@ -64,7 +64,7 @@ returns c =
     let k = takeF (c .before .before .before .before .before .children-at .result) (recordsAt (a .ws .now) (c .before .before .before .before .before .before .body .result + 1)) in
     plan-from k (kids-row (a .ws .now) (c .before .before .before .before .before .before .body .result) (c .before .before .before .before .before .children-at .result) (c .before .before .before .before .before .children-at .ensures .0) ∙ c .before .before .before .before .before .before .body .ensures .0)
     (c .before .before .before .before .before .before .before .before .before .class-id .ensures .0) (c .before .before .before .before .before .before .before .before .check-class-has-decorated .ensures) (c .before .before .before .before .before .before .before .has-private-in-expression .ensures) (c .before .before .before .before .has-static .ensures) (c .before .before .before .call-count .ensures)
-    (found-nameless (eqb (getD (a .aliases .now) (a .at) 0) 1) (a .s .next) (a .s .default) _ (c .before .before .before .before .before .before .before .before .before .before .before .before .pre .3) (c .before .before .before .before .before .before .before .before .before .before .before .before .pre .4) (c .before .before .before .before .before .before .before .before .before .class-id .ensures .1) (c .before .before .if1 .taken) (c .before .if2 .taken) (c .symbol-of .ensures .0 (inr (omega (arith, c .before .before .before .before .before .before .before .before .before .before .before .before .pre .3)))) refl refl)
+    (found-nameless (aliasIn (getD (a .notes .now) (a .at) 0)) (a .s .next) (a .s .default) _ (c .before .before .before .before .before .before .before .before .before .before .before .before .pre .3) (c .before .before .before .before .before .before .before .before .before .before .before .before .pre .4) (c .before .before .before .before .before .before .before .before .before .class-id .ensures .1) (c .before .before .if1 .taken) (c .before .if2 .taken) (c .symbol-of .ensures .0 (inr (omega (arith, c .before .before .before .before .before .before .before .before .before .before .before .before .pre .3)))) refl refl)
 
 alias-of-requires : tie.Need-alias-of-requires
 alias-of-requires c κs = search needs
@@ -75,7 +75,7 @@ returns-2 c =
     let k = takeF (c .before .before .before .before .before .children-at .result) (recordsAt (a .ws .now) (c .before .before .before .before .before .before .body .result + 1)) in
     plan-from k (kids-row (a .ws .now) (c .before .before .before .before .before .before .body .result) (c .before .before .before .before .before .children-at .result) (c .before .before .before .before .before .children-at .ensures .0) ∙ c .before .before .before .before .before .before .body .ensures .0)
     (c .before .before .before .before .before .before .before .before .before .class-id .ensures .0) (c .before .before .before .before .before .before .before .before .check-class-has-decorated .ensures) (c .before .before .before .before .before .before .before .has-private-in-expression .ensures) (c .before .before .before .before .has-static .ensures) (c .before .before .before .call-count .ensures)
-    (found-named (eqb (getD (a .aliases .now) (a .at) 0) 1) (a .s .next) (a .s .default) _ (c .before .before .before .before .before .before .before .before .before .before .before .before .pre .3) (c .before .before .before .before .before .before .before .before .before .before .before .before .pre .4) (c .before .before .before .before .before .before .before .before .before .class-id .ensures .1) (c .before .before .if1 .taken) (c .before .if2 .left) refl refl (c .alias-of .ensures .0) (c .alias-of .ensures .1))
+    (found-named (aliasIn (getD (a .notes .now) (a .at) 0)) (a .s .next) (a .s .default) _ (c .before .before .before .before .before .before .before .before .before .before .before .before .pre .3) (c .before .before .before .before .before .before .before .before .before .before .before .before .pre .4) (c .before .before .before .before .before .before .before .before .before .class-id .ensures .1) (c .before .before .if1 .taken) (c .before .if2 .left) refl refl (c .alias-of .ensures .0) (c .alias-of .ensures .1))
 
 symbol-of-requires-2 : tie.Need-symbol-of-requires-2
 symbol-of-requires-2 c κs = search needs
@@ -86,7 +86,7 @@ returns-3 c =
     let k = takeF (c .before .before .before .before .children-at .result) (recordsAt (a .ws .now) (c .before .before .before .before .before .body .result + 1)) in
     plan-from k (kids-row (a .ws .now) (c .before .before .before .before .before .body .result) (c .before .before .before .before .children-at .result) (c .before .before .before .before .children-at .ensures .0) ∙ c .before .before .before .before .before .body .ensures .0)
     (c .before .before .before .before .before .before .before .before .class-id .ensures .0) (c .before .before .before .before .before .before .before .check-class-has-decorated .ensures) (c .before .before .before .before .before .before .has-private-in-expression .ensures) (c .before .before .before .has-static .ensures) (c .before .before .call-count .ensures)
-    (found-undecorated (eqb (getD (a .aliases .now) (a .at) 0) 1) (a .s .next) (a .s .default) _ (c .before .before .before .before .before .before .before .before .before .before .before .pre .3) (c .before .before .before .before .before .before .before .before .before .before .before .pre .4) (c .before .before .before .before .before .before .before .before .class-id .ensures .1) (c .before .if1 .left) (c .symbol-of2 .ensures .1) refl)
+    (found-undecorated (aliasIn (getD (a .notes .now) (a .at) 0)) (a .s .next) (a .s .default) _ (c .before .before .before .before .before .before .before .before .before .before .before .pre .3) (c .before .before .before .before .before .before .before .before .before .before .before .pre .4) (c .before .before .before .before .before .before .before .before .class-id .ensures .1) (c .before .if1 .left) (c .symbol-of2 .ensures .1) refl)
 
 pub plan-spec : {M : Type 1} → statement M
 plan-spec =

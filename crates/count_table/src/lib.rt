@@ -1,0 +1,88 @@
+// Where each record of an accepted module ends and how many fresh symbols it takes: the notes of its places, filled from the last one to the first.
+use counter::Scope;
+use counter::Total;
+use inspect::NONE;
+ghost use mathlib.Core.Path.{_≡_};
+ghost use mathlib.Core.Bool.{true, false};
+ghost use Prim.Native.Nat.{_+_, _*_, _%_, _<_, _≤_};
+ghost use lib.ListN.{length, getD};
+ghost use Rattle.records.specs.Forest.{takeF};
+ghost use Rattle.records.specs.Label.{is};
+ghost use Rattle.records.specs.Place.{recordsAt, labelAt};
+ghost use Rattle.rewriting.specs.Parts.{isLive};
+ghost use Rattle.counter.specs.Contract.{aliasIn, Planned, Ready, Noted, Annotated};
+ghost use Rattle.count_table.specs.Note.{Behind, Leads, isLiveClass};
+
+// The notes of all places of the words, their aliases as they were. All ids are below s.
+pub fn find_counts(ws: &[u32], notes: &mut [u32], s: u32)
+    requires { ⌜ Ready (now ws) (now notes) 0 s ⌝ }
+    ensures { λ r. ⌜ Planned (now (ws .entry)) (now (notes .exit)) × Annotated (now (ws .entry)) (now (notes .exit)) 0 × (length (now (notes .exit)) ≡ length (now (notes .entry))) ⌝ }
+{
+    let mut i = ws.len();
+    while i != 0 {
+        i -= 1;
+        notes[i] = note(ws, notes, i, s);
+    }
+}
+
+// The note of the record at `at`, where those of the places behind it are right.
+fn note(ws: &[u32], notes: &[u32], at: usize, s: u32) -> u32
+    requires { ⌜ Behind (now ws) (now notes) at s ⌝ }
+    ensures { λ r. ⌜ Noted (now (ws .entry)) at r × (aliasIn r ≡ aliasIn (getD (now (notes .entry)) at 0)) ⌝ }
+{
+    if is_live_class(ws, at) {
+        return note_of(live_total(ws, notes, at, s), notes[at]);
+    }
+    note_of(dead_total(ws, notes, at, s), notes[at])
+}
+
+// Is the record at `at` a class statement whose class is live?
+fn is_live_class(ws: &[u32], at: usize) -> bool
+    requires { ⌜ at < length (now ws) ⌝ }
+    ensures { λ r. ⌜ r ≡ isLiveClass (now (ws .entry)) at ⌝ }
+{
+    if inspect::kind_at(ws, at) != 4 {
+        return false;
+    }
+    inspect::is_live(ws, at + 1)
+}
+
+// What a class statement whose class is live leads to (rules 4 to 6).
+fn live_total(ws: &[u32], notes: &[u32], at: usize, s: u32) -> Total
+    requires { ⌜ Behind (now ws) (now notes) at s × (isLiveClass (now ws) at ≡ true) ⌝ }
+    ensures { λ r. ⌜ Leads (now (ws .entry)) at r ⌝ }
+{
+    let id = inspect::class_id(ws, at + 1);
+    let t = counter::total_records(ws, notes, at + 1, 1, Scope { live: true, id }, false);
+    Total {
+        at: t.at,
+        count: t.count + counter::class_count(ws, notes, at, id, t.default),
+        default: NONE,
+    }
+}
+
+// What any other record leads to where no class around is live: its children and no more.
+fn dead_total(ws: &[u32], notes: &[u32], at: usize, s: u32) -> Total
+    requires { ⌜ Behind (now ws) (now notes) at s × (isLiveClass (now ws) at ≡ false) ⌝ }
+    ensures { λ r. ⌜ Leads (now (ws .entry)) at r ⌝ }
+{
+    counter::total_records(
+        ws,
+        notes,
+        at + 1,
+        inspect::children_at(ws, at),
+        Scope {
+            live: false,
+            id: NONE,
+        },
+        false,
+    )
+}
+
+// A note by its parts, the alias that of the note w.
+fn note_of(t: Total, w: u32) -> u32
+    requires { ⌜ (t .at ≤ 4096) × (t .count ≤ 8194) ⌝ }
+    ensures { λ r. ⌜ r ≡ 32768 * t .at + 2 * t .count + w % 2 ⌝ }
+{
+    32768 * t.at as u32 + 2 * t.count + w % 2
+}
