@@ -25,7 +25,7 @@ use Rattle.alias_search.specs.Mentions.{isSymbol, mentions}
 use Rattle.alias_search.specs.Older.{Older, visit-older}
 use Rattle.alias_search.specs.Formed.{Formed}
 use Rattle.alias_search.specs.Search.{mentions-visited}
-use Rattle.counter.specs.Contract.{Below, elementsFrom, Planned}
+use Rattle.counter.specs.Contract.{Below, elementsFrom, aliasIn, Planned}
 use Rattle.alias_table.specs.Formed.{fits-formed}
 
 -- does a class with this id name itself in the elements read
@@ -98,26 +98,26 @@ module _ (ws : List ℕ) (at : ℕ) where
 -- ---- the loop over the places
 
 -- the entries of the places below i, in a table of m entries
-pub record Done (ws aliases : List ℕ) (m i : ℕ) : Type 0 where
-  pub long : length aliases ≡ m
-  pub right : (j : ℕ) → j < i → eqb (getD aliases j 0) 1 ≡ takesAlias ws j
+pub record Done (ws notes : List ℕ) (m i : ℕ) : Type 0 where
+  pub long : length notes ≡ m
+  pub right : (j : ℕ) → j < i → aliasIn (getD notes j 0) ≡ takesAlias ws j
 
-pub done-start : (ws aliases : List ℕ) → Done ws aliases (length aliases) 0
-done-start ws aliases = record { long = refl; right = λ j h. absurd (omega arith) }
+pub done-start : (ws notes : List ℕ) → Done ws notes (length notes) 0
+done-start ws notes = record { long = refl; right = λ j h. absurd (omega arith) }
 
-pub done-next : {ws aliases : List ℕ} {m i : ℕ} (v : ℕ) → Done ws aliases m i → i < length aliases → eqb v 1 ≡ takesAlias ws i → Done ws (set aliases i v) m (i + 1)
-done-next {ws} {aliases} {m} {i} v d h e = record { long = length-set aliases i v ∙ d .long; right = λ j l. go j l (eqb j i) refl }
+pub done-next : {ws notes : List ℕ} {m i : ℕ} (v : ℕ) → Done ws notes m i → i < length notes → aliasIn v ≡ takesAlias ws i → Done ws (set notes i v) m (i + 1)
+done-next {ws} {notes} {m} {i} v d h e = record { long = length-set notes i v ∙ d .long; right = λ j l. go j l (eqb j i) refl }
   where
-    go : (j : ℕ) → j < i + 1 → (x : Bool) → eqb j i ≡ x → eqb (getD (set aliases i v) j 0) 1 ≡ takesAlias ws j
+    go : (j : ℕ) → j < i + 1 → (x : Bool) → eqb j i ≡ x → aliasIn (getD (set notes i v) j 0) ≡ takesAlias ws j
     go j l true s =
         let same : j ≡ i = eqb-true j i s in
-        rw (same, getD-set-same aliases i v 0 h) e
+        rw (same, getD-set-same notes i v 0 h) e
     go j l false s =
         let other : j ≡ i → ⊥ = eqb-false j i s in
-        rw (getD-set-other aliases i j v 0 other) (d .right j (omega arith))
+        rw (getD-set-other notes i j v 0 other) (d .right j (omega arith))
 
-pub done-planned : {ws aliases : List ℕ} {m i : ℕ} → Fits (module′ ∷ []) (recordsAt ws 0) → length ws ≤ m → length ws ≤ i → Done ws aliases m i → Planned ws aliases
-done-planned {ws} {aliases} {m} {i} whole long all d = record {
+pub done-planned : {ws notes : List ℕ} {m i : ℕ} → Fits (module′ ∷ []) (recordsAt ws 0) → length ws ≤ m → length ws ≤ i → Done ws notes m i → Planned ws notes
+done-planned {ws} {notes} {m} {i} whole long all d = record {
   long = omega (arith, d .long);
   right = λ at n h kind live decorated below.
       d .right at (omega arith) ∙ searched ws at kind live decorated ∙ sym (mentioned-same ws whole at h kind n (idOf (kidsAt ws (at + 1))) below);

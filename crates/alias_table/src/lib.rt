@@ -11,12 +11,12 @@ ghost use Rattle.counter.specs.Contract.{Planned};
 ghost use Rattle.alias_table.specs.Alias.{takesAlias};
 
 // 1 at the place of each class statement whose class takes an alias, 0 at all other places of the words.
-pub fn find_aliases(ws: &[u32], aliases: &mut [u8])
-    requires { ⌜ (length (now ws) ≤ length (now aliases)) × Fits (module′ ∷ []) (recordsAt (now ws) 0) ⌝ }
-    ensures { λ r. ⌜ Planned (now (ws .entry)) (now (aliases .exit)) × (length (now (aliases .exit)) ≡ length (now (aliases .entry))) ⌝ }
+pub fn find_aliases(ws: &[u32], notes: &mut [u32])
+    requires { ⌜ (length (now ws) ≤ length (now notes)) × Fits (module′ ∷ []) (recordsAt (now ws) 0) ⌝ }
+    ensures { λ r. ⌜ Planned (now (ws .entry)) (now (notes .exit)) × (length (now (notes .exit)) ≡ length (now (notes .entry))) ⌝ }
 {
     for i in 0..ws.len() {
-        aliases[i] = takes_alias(ws, i) as u8;
+        notes[i] = takes_alias(ws, i) as u32;
     }
 }
 

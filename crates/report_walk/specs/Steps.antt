@@ -19,7 +19,7 @@ use Rattle.inspect.specs.Child.{optOf, opt-is, opt-no}
 use Rattle.walk_laws.specs.Rows.{visitAt, fresh, kids-visit}
 use Rattle.walk_laws.specs.After.{keyAfter, mentioned, classAfter}
 use Rattle.walk_laws.specs.Kinds.{isElementKind, role-4, role-20, element-two, class-row-one, class-kids}
-use Rattle.counter.specs.Contract.{aroundOf, stateOf, elementsFrom, Counts}
+use Rattle.counter.specs.Contract.{aroundOf, stateOf, aliasIn, elementsFrom, Counts}
 use Rattle.counter.specs.declared.Scope.{Scope}
 use Rattle.counter.specs.declared.Count.{Count}
 use Rattle.counter.specs.Steps.{counts-low, counts-high, counts-within, ready-next, ready-behind, count-none, count-past, count-add, count-other, count-dropped, count-plain, count-member, count-expression, count-declared, count-live, kids-state, below-visit, below-kids, kids-one, arity-20, live-kids, id-kids, found, class-at, elements-at, dead-and, and-none, both-true, live-of}

@@ -14,7 +14,7 @@ ghost use Rattle.rewriting.specs.Parts.{hasPlainKey, isDecorated};
 ghost use Rattle.rewriting.specs.Visit.{classSymbol};
 ghost use Rattle.inspect.specs.Child.{optOf};
 ghost use Rattle.walk_laws.specs.Kinds.{isElementKind};
-ghost use Rattle.counter.specs.Contract.{stateOf};
+ghost use Rattle.counter.specs.Contract.{stateOf, aliasIn};
 ghost use Rattle.report_walk.specs.Contract.{keyFresh, classFresh, Asks, Reports};
 
 // The sorts of fresh symbols.

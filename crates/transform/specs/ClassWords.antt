@@ -18,7 +18,7 @@ use Rattle.inspect.specs.Class.{countCalled}
 use Rattle.walk_laws.specs.Rows.{visitAt}
 use Rattle.walk_laws.specs.Written.{written}
 use Rattle.walk_laws.specs.Classes.{Plan, planOf, under, optional, blockWords, exportWords, isSome, one, rk, plan, queue}
-use Rattle.counter.specs.Contract.{aroundOf, stateOf}
+use Rattle.counter.specs.Contract.{aroundOf, stateOf, aliasIn}
 use Rattle.counter.specs.declared.Scope.{Scope}
 use Rattle.counter.specs.declared.Count.{Count}
 use Rattle.transform.specs.Contract.{wordBelow, wordsOf, hereAt, callsAt, afterAt, kidsHere}

@@ -15,7 +15,7 @@ use Rattle.class_stack.specs.declared.ClassStack.{ClassStack}
 use Rattle.walk_laws.specs.Rows.{visitAt}
 use Rattle.walk_laws.specs.Written.{wordBy, written}
 use Rattle.walk_laws.specs.Members.{bareWords, keyWords}
-use Rattle.counter.specs.Contract.{aroundOf, stateOf, Ready}
+use Rattle.counter.specs.Contract.{aroundOf, stateOf, Ready, Annotated}
 use Rattle.counter.specs.declared.Scope.{Scope}
 use Rattle.counter.specs.declared.Count.{Count}
 use Rattle.transform.specs.Under.{wordUnder}
@@ -45,6 +45,7 @@ afterAt ws at k a s = visitAt ws at k (aroundOf a) (stateIn s) .after
 -- what a walker of the k records at `at` asks, which is to write `len` words at `pos`
 pub record Asks (ws notes : List ℕ) (at k n : ℕ) (c : ClassStack) (pos len : ℕ) : Type 0 where
   pub ready : Ready ws notes at n
+  pub noted : Annotated ws notes at
   pub stack : StackReady c
   pub deep : c .depth + nestAt ws at k ≤ capacity
   pub fit : pos + len < 67108864

@@ -27,7 +27,7 @@ use Rattle.walk_laws.specs.Default.{class-default}
 use Rattle.walk_laws.specs.Elements.{below-29}
 use Rattle.walk_laws.specs.Calls.{symbolOf, call-none, call-count, calls-more}
 use Rattle.walk_laws.specs.Classes.{Plan, either, decoratedPlan, planOf, rk, scope, bodyAt, atBody, atEnd, els, queue, plan, class-is, body-in, body-kind, own-elements, elements-visited}
-use Rattle.counter.specs.Contract.{aroundOf, stateOf, Below, elementsFrom, Ready, Counts}
+use Rattle.counter.specs.Contract.{aroundOf, stateOf, aliasIn, Below, elementsFrom, Ready, Counts}
 use Rattle.counter.specs.Steps.{below-more, counts-high, counts-within}
 use Rattle.counter.specs.declared.Scope.{Scope}
 use Rattle.counter.specs.declared.Count.{Count}

@@ -16,8 +16,9 @@ use Rattle.class_stack.specs.Renaming.{Ready as StackReady, subs}
 use Rattle.class_stack.specs.declared.ClassStack.{ClassStack}
 use Rattle.walk_laws.specs.Rows.{visitAt, row-none, row-past, here-add, calls-add, after-add, one-here, one-calls, one-after, kids-visit}
 use Rattle.walk_laws.specs.Written.{wordBy, written, written-append, length-written}
-use Rattle.counter.specs.Contract.{aroundOf, stateOf, Ready, Counts}
+use Rattle.counter.specs.Contract.{aroundOf, stateOf, Ready, Counts, Annotated}
 use Rattle.counter.specs.Steps.{ready-on}
+use Rattle.counter.specs.Totals.{noted-on}
 use Rattle.counter.specs.declared.Scope.{Scope}
 use Rattle.counter.specs.declared.Count.{Count}
 use Rattle.counter.specs.declared.Counted.{Counted}
@@ -63,15 +64,20 @@ module _ {ws notes : List ℕ} {at k n : ℕ} {c : ClassStack} {pos len : ℕ} (
   pub asks-row : (a : Scope) (s : Count) (j i m e q l : ℕ) → s .next ≡ n → j + i ≤ k → afterAt ws at j a s ≡ stateOf m e → q + l < 67108864 → Asks ws notes (endOf ws at j) i m c q l
   asks-row a s j i m e q l z h t g = record {
     ready = ready-on (f .ready) (endOf ws at j) m (omega (arith, end-high ws at j, f .ready .inside)) (omega (arith, state-low ws at j a s m e t, z)) (omega (arith, state-high ws at j a s m e t, z));
+    noted = noted-on ws notes at (endOf ws at j) (end-low ws at j) (f .noted);
     stack = f .stack;
     deep = omega (arith, f .deep, nest-part ws at j i k h);
     fit = g;
   }
 
+  pub noted-next : Annotated ws notes (at + 1)
+  noted-next = noted-on ws notes at (at + 1) (omega arith) (f .noted)
+
   -- of the children of the first record
   pub asks-kids : (q l : ℕ) → k ≡ 1 → at < length ws → q + l < 67108864 → Asks ws notes (at + 1) (arityAt ws at) n c q l
   asks-kids q l e h g = record {
     ready = ready-on (f .ready) (at + 1) n (omega arith) (omega arith) (omega arith);
+    noted = noted-next;
     stack = f .stack;
     deep = omega (arith, f .deep, ap (nestAt ws at) e, nest-kids ws at h);
     fit = g;
@@ -79,7 +85,7 @@ module _ {ws notes : List ℕ} {at k n : ℕ} {c : ClassStack} {pos len : ℕ} (
 
   -- the same with other words to write
   pub asks-words : (q l : ℕ) → q + l < 67108864 → Asks ws notes at k n c q l
-  asks-words q l g = record { ready = f .ready; stack = f .stack; deep = f .deep; fit = g }
+  asks-words q l g = record { ready = f .ready; noted = f .noted; stack = f .stack; deep = f .deep; fit = g }
 
 -- ---- rows
 

@@ -53,6 +53,7 @@ module _ {ws notes : List ℕ} {at k n : ℕ} {c : ClassStack} {pos len : ℕ} (
   asks-first : 1 ≤ k → Asks ws notes at 1 n c pos len
   asks-first h = record {
     ready = f .ready;
+    noted = f .noted;
     stack = f .stack;
     deep =
         let e : 1 + (k - 1) ≡ k = omega arith in

@@ -431,7 +431,7 @@ module _ {ws notes : List ℕ} {b : ℕ} {c : ClassStack} {pos : ℕ} (g : Class
       block-is = unfold blockBy in rw e
 
   pub stack-asks : (q : ℕ) → StackReady r → r .depth ≤ c .depth + 1 → c .depth + 1 + nestAt ws b 1 ≤ capacity → q ≡ pos + 1 + length (frontWords g c) → Asks ws notes b 1 (s .next) r q (length (elementsBy g r ws b s))
-  stack-asks q t d n e = record { ready = f .ready; stack = t; deep = omega arith; fit = omega (arith, body-room) }
+  stack-asks q t d n e = record { ready = f .ready; noted = f .noted; stack = t; deep = omega arith; fit = omega (arith, body-room) }
 
   -- without and with a block behind the elements
   module _ {o o₁ o₂ o₃ : List ℕ} {m p₁ p₂ p₃ : ℕ} (me : m ≡ arityAt ws b + (one (frontOf g) + one (blockOf g)))
@@ -687,6 +687,7 @@ module _ {ws notes : List ℕ} {at n : ℕ} {c : ClassStack} {pos : ℕ} {g : Cl
       pub assignment-entries : StackReady r → r .depth ≤ c .depth + 1 → Asks ws notes b 1 (s .next) r (q .pos) (size (firstBy g r ws b s))
       assignment-entries t d = record {
         ready = body-asks f h kind p b s be se 0 0 (omega arith) .ready;
+        noted = body-asks f h kind p b s be se 0 0 (omega arith) .noted;
         stack = t;
         deep = omega (arith, body-deep f h kind p b s be se);
         fit = omega (arith, entries-room);

@@ -28,7 +28,7 @@ ghost use Rattle.walk_laws.specs.Kinds.{isElementKind};
 ghost use Rattle.walk_laws.specs.Members.{parametersWords};
 ghost use Rattle.walk_laws.specs.Calls.{symbolOf, prefixWords, nameWord, argumentWords, entries};
 ghost use Rattle.walk_laws.specs.Classes.{optional, one, exportWords, ds, classWords, queueWords, queueCount, atBody, bodyAt};
-ghost use Rattle.counter.specs.Contract.{aroundOf, stateOf, Below, Ready};
+ghost use Rattle.counter.specs.Contract.{aroundOf, stateOf, aliasIn, Below, Ready, Annotated};
 ghost use Rattle.transform.specs.Nest.{nestAt};
 ghost use Rattle.transform.specs.Contract.{wordBelow, wordsOf, stateIn, hereAt, callsAt, afterAt, kidsHere, Asks, Moved, Emitted, Queues, behindWords, memberWords, takesKey};
 ghost use Rattle.transform.specs.ClassWords.{scopeOf, bodyWord, frontOf, blockOf, letWords, headOf, flagsOf, nameWords, frontWords, assignWords, elementsBy, bodyBy, firstBy, assignmentBy, PlanFrom, Plans};
@@ -1070,7 +1070,7 @@ fn live_class(
 
 // The plan of the class of the statement at `at`; n is the counter in front of it.
 fn plan_at(ws: &[u32], notes: &[u32], at: usize, n: u32) -> ClassPlan
-    requires { ⌜ Ready (now ws) (now notes) at n × (at < length (now ws)) × (labelAt (now ws) at .kind ≡ 4) × (isLive (takeF 1 (recordsAt (now ws) (at + 1))) ≡ true) ⌝ }
+    requires { ⌜ Ready (now ws) (now notes) at n × (at < length (now ws)) × (labelAt (now ws) at .kind ≡ 4) × (isLive (takeF 1 (recordsAt (now ws) (at + 1))) ≡ true) × Annotated (now ws) (now notes) at ⌝ }
     ensures { λ r. ⌜ Plans (now (ws .entry)) at n r ⌝ }
 {
     let id = inspect::class_id(ws, at + 1);

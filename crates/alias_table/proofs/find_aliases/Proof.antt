@@ -7,31 +7,35 @@ use lib.Dec.{eqb}
 use lib.ListN.{length}
 use borrow.Author.Needs.{needs}
 use mir.Val.{boolByte}
+use Rattle.counter.specs.Contract.{aliasIn}
 use Rattle.alias_table.specs.Alias.{Done, done-start, done-next, done-planned}
 use Rattle.alias_table.proofs.find_aliases.Statement.{statement}
 use Rattle.alias_table.proofs.find_aliases.Tie as tie
 
-byte-is : (b : Bool) → eqb (boolByte b) 1 ≡ b
-byte-is true = refl
-byte-is false = refl
+bit-is : (b : Bool) → aliasIn (boolByte b) ≡ b
+bit-is true = refl
+bit-is false = refl
 
 abbrev Inv-loop : tie.InvT-loop
-Inv-loop ws aliases₀ i₀ i-end aliases i = Done ws aliases (length aliases₀) i
+Inv-loop ws aliases₀ i₀ i-end notes i = Done ws notes (length aliases₀) i
 
 abbrev μ-loop : tie.MeasureT-loop
-μ-loop ws aliases₀ i₀ i-end aliases i = i-end - i
+μ-loop ws aliases₀ i₀ i-end notes i = i-end - i
 
 loop-holds : tie.Need-loop-holds Inv-loop μ-loop
-loop-holds c = done-start (c .before .before .args .ws .now) (c .before .before .args .aliases .now)
+loop-holds c = done-start (c .before .before .args .ws .now) (c .before .before .args .notes .now)
 
 takes-alias-requires : tie.Need-takes-alias-requires Inv-loop μ-loop
 takes-alias-requires c κs = search needs
 
-cast-aliases : tie.Need-cast-aliases Inv-loop μ-loop
-cast-aliases c = tt
+cast-notes : tie.Need-cast-notes Inv-loop μ-loop
+cast-notes c = tt
 
-slice-write-aliases : tie.Need-slice-write-aliases Inv-loop μ-loop
-slice-write-aliases c = omega (arith, c .before .before .loop .inv .long, c .before .before .before .before .before .pre .0, c .before .loop-test .taken)
+mul-notes : tie.Need-mul-notes Inv-loop μ-loop
+mul-notes c = search needs
+
+slice-write-notes : tie.Need-slice-write-notes Inv-loop μ-loop
+slice-write-notes c = omega (arith, c .before .before .loop .inv .long, c .before .before .before .before .before .pre .0, c .before .loop-test .taken)
 
 add-i : tie.Need-add-i Inv-loop μ-loop
 add-i c = search needs
@@ -42,7 +46,7 @@ loop-less c = search needs
 loop-again : tie.Need-loop-again Inv-loop μ-loop
 loop-again c =
     let d = c .before .before .loop .inv in
-    done-next _ d (omega (arith, d .long, c .before .before .before .before .before .pre .0, c .before .loop-test .taken)) (byte-is (c .takes-alias .result) ∙ c .takes-alias .ensures)
+    done-next _ d (omega (arith, d .long, c .before .before .before .before .before .pre .0, c .before .loop-test .taken)) (bit-is (c .takes-alias .result) ∙ c .takes-alias .ensures)
 
 same-length : tie.Need-same-length Inv-loop μ-loop
 same-length c = c .before .loop .inv .long
@@ -60,8 +64,9 @@ find-aliases-spec =
     μ-loop
     loop-holds
     takes-alias-requires
-    cast-aliases
-    slice-write-aliases
+    cast-notes
+    mul-notes
+    slice-write-notes
     add-i
     loop-less
     loop-again

@@ -36,6 +36,9 @@ word-of-requires c κs = omega (arith, c .before .before .before .before .before
 put-requires : tie.Need-put-requires
 put-requires c κs = omega (arith, c .before .before .before .before .before .before .before .before .pre)
 
+mul-if3 : tie.Need-mul-if3
+mul-if3 c = search needs
+
 shared-slice-read-if3 : tie.Need-shared-slice-read-if3
 shared-slice-read-if3 c = omega (arith, c .before .before .before .before .before .before .before .before .before .before .before .before .pre)
 
@@ -76,6 +79,7 @@ put-class-symbols-spec =
     returns-2
     word-of-requires
     put-requires
+    mul-if3
     shared-slice-read-if3
     add-word-of
     word-of-requires-2

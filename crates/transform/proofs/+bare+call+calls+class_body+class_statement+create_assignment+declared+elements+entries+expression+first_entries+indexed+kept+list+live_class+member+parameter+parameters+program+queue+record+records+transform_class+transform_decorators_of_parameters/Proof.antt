@@ -1,5 +1,5 @@
 use Rattle.transform.specs.StepsClasses.{no-constructor, first-at, elements-plain, elements-none, elements-asks, elements-wrote, before-asks, constructor-asks, constructor-inside, behind-asks, bare-wrote, arity-few, one-le, one-no, one-yes, stack-outer, stack-asks, body-room, block-room, body-wrote, block-wrote, alias-none, count-plan, inside-asks, few-flags, body-inside, body-is, body-later, body-deep, body-id, body-default, class-heritage, class-place, class-state, class-body-asks, class-wrote, entries-none, entries-kids, entries-inside, entries-asks, entries-wrote, decorators-asks, assignment-entries, entries-few, entries-end, assignment-wrote, queue-silent, queue-place, queue-state, queue-calls, queue-plain, queue-assignment, calls-few, assignment-end, queue-wrote, class-parts, statement-class, statement-queue, statement-end, statement-few, statement-emitted}
-use Rattle.transform.specs.Steps.{asks-kids}
+use Rattle.transform.specs.Steps.{noted-next, asks-kids}
 use Rattle.transform.specs.Plans.{body-fits}
 use Rattle.transform.specs.ClassWords.{scopeOf, frontOf, blockOf}
 use Rattle.transform.specs.Contract.{wordBelow, Asks, callsAt}
@@ -512,7 +512,7 @@ bare-add-count-record t c = omega (arith, c .before .before .before .before .pre
 bare-count-record-requires : (t : ℕ) → bare-lts.Need-count-record-requires (bare-uses t) (bare-at t) bare.Post
 bare-count-record-requires t c κs =
     let p = c .before .before .before .before .pre .1 in
-    (ready-next (p .0 .ready) (p .1), element-keyed _ _ (p .0 .ready .whole) (p .1) (p .2) .marked .place)
+    (ready-next (p .0 .ready) (p .1), noted-next (p .0), element-keyed _ _ (p .0 .ready .whole) (p .1) (p .2) .marked .place)
 
 bare-kind-at-requires : (t : ℕ) → bare-lts.Need-kind-at-requires (bare-uses t) (bare-at t) bare.Post
 bare-kind-at-requires t c κs = search needs
@@ -587,7 +587,7 @@ bare-returns-2 t c =
     wrote-method (g .ws .now) (g .at) (g .a) (g .s) (g .c) x _ (c .before .before .before .before .before .before .before .before .before .before .before .before .before .before .before .children-at .ensures .0) k (p .0) (p .1) (c .before .before .before .before .before .before .before .before .before .before .records2 .ensures) (c .before .before .before .before .before .before .parameters .ensures) (c .before .before .records3 .ensures)
 
 call-count-record-requires : (t : ℕ) → call-lts.Need-count-record-requires (call-uses t) (call-at t) call.Post
-call-count-record-requires t c κs = (c .before .before .before .pre .1 .0 .ready, c .before .before .before .pre .1 .1)
+call-count-record-requires t c κs = (c .before .before .before .pre .1 .0 .ready, c .before .before .before .pre .1 .0 .noted, c .before .before .before .pre .1 .1)
 
 call-member-decorated-requires : (t : ℕ) → call-lts.Need-member-decorated-requires (call-uses t) (call-at t) call.Post
 call-member-decorated-requires t c κs = search needs
@@ -1126,7 +1126,7 @@ entries-add-count-records : (t : ℕ) → entries-lts.Need-add-count-records (en
 entries-add-count-records t c = omega (arith, c .before .before .before .before .before .before .before .before .before .before .pre .1 .1, c .before .before .before .before .before .before .before .before .before .before .pre .1 .0 .ready .few)
 
 entries-count-records-requires : (t : ℕ) → entries-lts.Need-count-records-requires (entries-uses t) (entries-at t) entries.Post
-entries-count-records-requires t c κs = ready-next (c .before .before .before .before .before .before .before .before .before .before .pre .1 .0 .ready) (c .before .before .before .before .before .before .before .before .before .before .pre .1 .1)
+entries-count-records-requires t c κs = (ready-next (c .before .before .before .before .before .before .before .before .before .before .pre .1 .0 .ready) (c .before .before .before .before .before .before .before .before .before .before .pre .1 .1), noted-next (c .before .before .before .before .before .before .before .before .before .before .pre .1 .0))
 
 entries-transform-decorators-of-parameters-requires : (t : ℕ) → entries-lts.Need-transform-decorators-of-parameters-requires (entries-uses t) (entries-at t) entries.Post
 entries-transform-decorators-of-parameters-requires t c κs =
@@ -1214,7 +1214,8 @@ first-entries-add-count-records t c = omega (arith, c .before .before .before .b
 first-entries-count-records-requires : (t : ℕ) → first-entries-lts.Need-count-records-requires (first-entries-uses t) (first-entries-at t) first-entries.Post
 first-entries-count-records-requires t c κs =
     let p = c .before .before .before .before .before .before .pre .1 in
-    asks-kids (p .0) 0 0 refl (p .1) (omega arith) .ready
+    let k = asks-kids (p .0) 0 0 refl (p .1) (omega arith) in
+    (k .ready, k .noted)
 
 first-entries-add-count-records-2 : (t : ℕ) → first-entries-lts.Need-add-count-records-2 (first-entries-uses t) (first-entries-at t) first-entries.Post
 first-entries-add-count-records-2 t c =
@@ -1226,7 +1227,8 @@ first-entries-count-records-requires-2 : (t : ℕ) → first-entries-lts.Need-co
 first-entries-count-records-requires-2 t c κs =
     let p = c .before .before .before .before .before .before .before .before .pre .1 in
     let n = first-at (c .before .before .before .before .before .before .before .before .args .ws .now) (c .before .before .before .before .before .before .before .before .args .b) (c .before .before .before .before .children-at .result) (c .before .before .before .first-constructor .result) (c .before .before .before .before .children-at .ensures .0) (c .before .before .before .first-constructor .ensures) (c .before .before .if1 .left) in
-    entries-kids (c .before .before .before .before .before .before .before .before .args .g) (c .before .before .before .before .before .before .before .before .args .s) (p .0) (p .1) (p .2) (c .before .before .before .first-constructor .result) n (c .before .count-records .ensures) 0 0 (omega arith) .ready
+    let k = entries-kids (c .before .before .before .before .before .before .before .before .args .g) (c .before .before .before .before .before .before .before .before .args .s) (p .0) (p .1) (p .2) (c .before .before .before .first-constructor .result) n (c .before .count-records .ensures) 0 0 (omega arith) in
+    (k .ready, k .noted)
 
 first-entries-transform-decorators-of-parameters-requires : (t : ℕ) → first-entries-lts.Need-transform-decorators-of-parameters-requires (first-entries-uses t) (first-entries-at t) first-entries.Post
 first-entries-transform-decorators-of-parameters-requires t c κs =
@@ -1254,7 +1256,7 @@ abbrev indexed-μ-loop : indexed-lts.MeasureT-loop
 indexed-μ-loop ws notes at j a c out₀ pos whole k q₀ i₀ p₀ n₀ d₀ out q i p n d = k - i
 
 indexed-count-record-requires : (t : ℕ) → indexed-lts.Need-count-record-requires (indexed-uses t) (indexed-at t) indexed.Post indexed-Inv-loop indexed-μ-loop
-indexed-count-record-requires t c κs = (c .before .before .before .pre .1 .0 .ready, c .before .before .before .pre .1 .1)
+indexed-count-record-requires t c κs = (c .before .before .before .pre .1 .0 .ready, c .before .before .before .pre .1 .0 .noted, c .before .before .before .pre .1 .1)
 
 indexed-add-children-at : (t : ℕ) → indexed-lts.Need-add-children-at (indexed-uses t) (indexed-at t) indexed.Post indexed-Inv-loop indexed-μ-loop
 indexed-add-children-at t c = omega (arith, c .before .before .before .before .pre .1 .1, c .before .before .before .before .pre .1 .0 .ready .few)
@@ -1391,12 +1393,12 @@ list-returns t c =
     emit-list (g .ws .now) (g .at) (g .a) (g .s) (g .c) (f .1) (c .before .before .before .before .kind-at .result) (c .before .before .before .before .before .before .before .before .before .children-at .result) (f .2) (c .before .before .before .before .kind-at .ensures) (c .before .before .before .before .before .before .before .before .before .children-at .ensures .0) (c .before .before .before .before .before .before .before .records .ensures) (c .before .before .put .ensures)
 
 live-class-count-record-requires : (t : ℕ) → live-class-lts.Need-count-record-requires (live-class-uses t) (live-class-at t) live-class.Post
-live-class-count-record-requires t c κs = (c .before .before .before .pre .1 .0 .ready, c .before .before .before .pre .1 .1)
+live-class-count-record-requires t c κs = (c .before .before .before .pre .1 .0 .ready, c .before .before .before .pre .1 .0 .noted, c .before .before .before .pre .1 .1)
 
 live-class-plan-at-requires : (t : ℕ) → live-class-lts.Need-plan-at-requires (live-class-uses t) (live-class-at t) live-class.Post
 live-class-plan-at-requires t c κs =
     let p = c .before .before .before .before .pre .1 in
-    (p .0 .ready, p .1, p .2, p .3)
+    (p .0 .ready, p .1, p .2, p .3, p .0 .noted)
 
 live-class-payload-at-requires : (t : ℕ) → live-class-lts.Need-payload-at-requires (live-class-uses t) (live-class-at t) live-class.Post
 live-class-payload-at-requires t c κs = search needs
@@ -1486,7 +1488,7 @@ live-class-returns-2 t c =
     statement-emitted (c .before .before .before .before .before .before .before .before .before .before .before .before .before .before .before .before .before .before .before .before .before .args .a) (c .before .before .before .before .before .before .before .before .before .before .before .before .before .before .before .before .before .before .before .before .before .args .s) (p .0) (p .1) (p .2) (p .3) (c .before .before .before .before .before .before .before .before .before .before .before .before .before .before .before .before .plan-at .ensures) (c .before .before .before .before .before .before .before .before .before .before .before .before .before .before .before .payload-at .result) (c .before .before .before .before .before .before .before .before .before .before .before .before .before .before .before .payload-at .ensures .0) (c .before .before .before .before .before .before .before .before .before .before .before .before .before .before .before .before .before .count-record .ensures) (c .before .before .before .before .before .before .before .before .before .before .before .before .before .class-head .ensures) (c .before .before .before .before .before .before .before .before .before .transform-class .ensures) (wrote-part-past (c .before .before .before .before .before .before .before .before .before .transform-class .last .1 .1 .1 .1 .1 .1 .0) (length (c .before .before .before .before .before .before .before .before .before .transform-class .last .1 .1 .1 .1 .1 .1 .0)) {ws = queueWords (c .before .before .before .before .before .before .before .before .before .before .before .before .before .before .before .before .before .before .before .before .before .args .ws .now) (c .before .before .before .before .before .before .before .before .before .before .before .before .before .before .before .before .before .before .before .before .before .args .at) (c .before .before .before .before .before .before .before .before .before .before .before .before .before .before .before .before .before .before .before .before .before .args .s .next) (wordBelow (c .before .before .before .before .before .before .before .before .before .before .before .before .before .before .before .before .before .before .before .before .before .args .c))} (c .before .before .before .before .before .before .before .before .before .transform-class .result) (omega arith) (omega (arith, c .before .before .before .before .before .before .if1 .left)) (c .before .before .before .before .queue2 .ensures .0)) (c .before .before .before .before .queue2 .ensures .1)
 
 member-count-record-requires : (t : ℕ) → member-lts.Need-count-record-requires (member-uses t) (member-at t) member.Post
-member-count-record-requires t c κs = (c .before .before .before .pre .1 .0 .ready, c .before .before .before .pre .1 .1)
+member-count-record-requires t c κs = (c .before .before .before .pre .1 .0 .ready, c .before .before .before .pre .1 .0 .noted, c .before .before .before .pre .1 .1)
 
 member-kind-at-requires : (t : ℕ) → member-lts.Need-kind-at-requires (member-uses t) (member-at t) member.Post
 member-kind-at-requires t c κs = search needs
@@ -1530,7 +1532,7 @@ parameter-add-count-record t c = omega (arith, c .before .before .before .pre .1
 parameter-count-record-requires : (t : ℕ) → parameter-lts.Need-count-record-requires (parameter-uses t) (parameter-at t) parameter.Post
 parameter-count-record-requires t c κs =
     let p = c .before .before .before .pre .1 in
-    (ready-next (p .0 .ready) (p .1), parameter-marked _ _ (p .0 .ready .whole) (p .1) (p .2) .place)
+    (ready-next (p .0 .ready) (p .1), noted-next (p .0), parameter-marked _ _ (p .0 .ready .whole) (p .1) (p .2) .place)
 
 parameter-payload-at-requires : (t : ℕ) → parameter-lts.Need-payload-at-requires (parameter-uses t) (parameter-at t) parameter.Post
 parameter-payload-at-requires t c κs = search needs
@@ -1701,7 +1703,8 @@ queue-sub-count-records t c =
 queue-count-records-requires : (t : ℕ) → queue-lts.Need-count-records-requires (queue-uses t) (queue-at t) queue.Post
 queue-count-records-requires t c κs =
     let p = c .before .before .before .before .before .pre .1 in
-    inside-asks (p .0) (p .1) (p .2) 0 0 (omega arith) .ready
+    let k = inside-asks (p .0) (p .1) (p .2) 0 0 (omega arith) in
+    (k .ready, k .noted)
 
 queue-add-calls : (t : ℕ) → queue-lts.Need-add-calls (queue-uses t) (queue-at t) queue.Post
 queue-add-calls t c =
@@ -2113,7 +2116,8 @@ transform-class-add-count-records-2 t c = omega arith
 transform-class-count-records-requires : (t : ℕ) → transform-class-lts.Need-count-records-requires (transform-class-uses t) (transform-class-at t) transform-class.Post
 transform-class-count-records-requires t c κs =
     let p = c .before .before .before .before .before .before .before .before .pre .1 in
-    inside-asks (p .0) (p .1) (p .2) 0 0 (omega arith) .ready
+    let k = inside-asks (p .0) (p .1) (p .2) 0 0 (omega arith) in
+    (k .ready, k .noted)
 
 transform-class-cast-records : (t : ℕ) → transform-class-lts.Need-cast-records (transform-class-uses t) (transform-class-at t) transform-class.Post
 transform-class-cast-records t c = omega arith

@@ -5,6 +5,9 @@ use borrow.Author.Needs.{needs}
 use Rattle.transform.proofs.alias_of.Statement.{statement}
 use Rattle.transform.proofs.alias_of.Tie as tie
 
+mul-if1 : tie.Need-mul-if1
+mul-if1 c = search needs
+
 shared-slice-read-if1 : tie.Need-shared-slice-read-if1
 shared-slice-read-if1 c = search needs
 
@@ -18,4 +21,4 @@ returns-2 : tie.Need-returns-2
 returns-2 c = (rw (ne-eqb _ _ (c .if1 .left)), omega arith)
 
 pub alias-of-spec : {M : Type 1} → statement M
-alias-of-spec = tie.close (tie.spec shared-slice-read-if1 add-result returns returns-2)
+alias-of-spec = tie.close (tie.spec mul-if1 shared-slice-read-if1 add-result returns returns-2)

@@ -1,4 +1,5 @@
 -- `plan`: by whether the class is decorated and has an id.
+use Rattle.counter.specs.Contract.{aliasIn}
 use mathlib.Core.Path.{refl, _∙_}
 use Prim.Native.Nat.{_+_}
 use native.Mathlib.Omega.{arith}

@@ -1,6 +1,8 @@
 -- `plan_at`: the state behind the class's children is found by counting.
 use borrow.Author.Needs.{needs}
+use native.Mathlib.Omega.{arith}
 use Rattle.counter.specs.Steps.{ready-next}
+use Rattle.counter.specs.Totals.{noted-on}
 use Rattle.transform.specs.Plans.{plan-default, plan-next, plans}
 use Rattle.transform.proofs.plan_at.Statement.{statement}
 use Rattle.transform.proofs.plan_at.Tie as tie
@@ -15,7 +17,9 @@ add-count-records : tie.Need-add-count-records
 add-count-records c = search needs
 
 count-records-requires : tie.Need-count-records-requires
-count-records-requires c κs = ready-next (c .before .before .before .pre .0) (c .before .before .before .pre .1)
+count-records-requires c κs =
+    let p = c .before .before .before .pre in
+    (ready-next (p .0) (p .1), noted-on _ _ _ _ (omega arith) (p .4))
 
 plan-requires : tie.Need-plan-requires
 plan-requires c κs =
