@@ -5,6 +5,7 @@ use inspect::NONE;
 ghost use mathlib.Core.Path.{_≡_};
 ghost use mathlib.Core.List.{List};
 ghost use Prim.Native.Nat.{ℕ};
+ghost use lib.Dec.{leb};
 ghost use lib.ListN.{length, take};
 ghost use Rattle.grammar.specs.Scan.{refusal, symbolsOf};
 ghost use Rattle.rewriting.specs.Answer.{turnedBack, moduleWords, rewriteAnswer, rewriteLent};
@@ -37,9 +38,7 @@ pub fn rewrite(ws: &[u32], out: &mut [u32]) -> Answer
     }
     let mut notes = [0u32; 4096];
     alias_table::find_aliases(ws, &mut notes);
-    let mut none = [0u32; 0];
-    let m = write_module(ws, &notes, &mut none);
-    if out.len() < m.pos {
+    if !has_room(ws, &notes, out.len()) {
         return Answer {
             code: 8,
             written: 0,
@@ -66,6 +65,19 @@ pub fn turned_back(ws: &[u32]) -> u32
         return 7;
     }
     0
+}
+
+// Whether `room` words are enough for what the module becomes. Three times its words always are (`module-length`); else they are counted.
+fn has_room(ws: &[u32], notes: &[u32], room: usize) -> bool
+    requires { ⌜ (refusal (now ws) ≡ 0) × Planned (now ws) (now notes) ⌝ }
+    ensures { λ r. ⌜ r ≡ leb (length (moduleWords (now (ws .entry)))) room ⌝ }
+{
+    if ws.len() <= room / 3 {
+        return true;
+    }
+    let mut none = [0u32; 0];
+    let m = write_module(ws, notes, &mut none);
+    m.pos <= room
 }
 
 // What the module becomes, at the start of the output, cut where that ends.

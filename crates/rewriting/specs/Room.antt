@@ -1,4 +1,4 @@
--- What follows of the answers: what comes first, how much room is enough, one word of the report for each fresh symbol in any order. Assumes nothing.
+-- What follows of the answers: what comes first, their cases, how much room is enough, one word of the report for each fresh symbol in any order. Assumes nothing.
 use mathlib.Core.Path.{_≡_, refl, sym, ap, _∙_}
 use mathlib.Core.Bool.{Bool, true, false, cond, _&&_}
 use mathlib.Core.Option.{none}
@@ -7,7 +7,7 @@ use Prim.Native.Nat.{ℕ, suc, _+_, _*_, _<_, _≤_}
 use native.Mathlib.Omega.{arith}
 use lib.ListN.{length}
 use lib.Dec.{eqb, ltb, leb}
-use borrow.Author.Tests.{eqb-true, eqb-false, ne-eqb, le-ltb, le-leb}
+use borrow.Author.Tests.{eqb-true, eqb-false, eq-eqb, ne-eqb, ltb-true, ltb-false, lt-ltb, le-ltb, le-leb}
 use Rattle.words.specs.Word.{kindOf, payloadOf, kind-of, payload-of}
 use Rattle.records.specs.Label.{Label, wordAt, words, length-words}
 use Rattle.grammar.specs.Scan.{refusal, symbolsOf}
@@ -32,6 +32,51 @@ pub seven-before-eight : (ws xs : List ℕ) (room : ℕ) → (turnedBack ws ≡ 
 unfolding answerOf
 seven-before-eight ws xs room n = rw (ne-eqb (turnedBack ws) 0 n)
 
+-- ---- an answer, by cases
+
+-- turned back, too short, or written
+pub by-case : (ws xs : List ℕ) (room : ℕ) (P : Answer → Type 0) → ((turnedBack ws ≡ 0 → ⊥) → P (refused (turnedBack ws))) → (turnedBack ws ≡ 0 → room < length xs → P (refused 8)) →
+    (turnedBack ws ≡ 0 → length xs ≤ room → P (accept (length xs) (length (reportWords ws)))) → P (answerOf ws xs room)
+unfolding answerOf
+by-case ws xs room P back short fit = go (eqb (turnedBack ws) 0) refl (ltb room (length xs)) refl
+  where
+    go : (b : Bool) → eqb (turnedBack ws) 0 ≡ b → (d : Bool) → ltb room (length xs) ≡ d →
+        P (cond b (cond d (refused 8) (accept (length xs) (length (reportWords ws)))) (refused (turnedBack ws)))
+    go true e true f = short (eqb-true (turnedBack ws) 0 e) (ltb-true room (length xs) f)
+    go true e false f = fit (eqb-true (turnedBack ws) 0 e) (ltb-false room (length xs) f)
+    go false e d f = back (eqb-false (turnedBack ws) 0 e)
+
+-- no more is written than is lent
+pub written-le : (ws xs : List ℕ) (room : ℕ) → answerOf ws xs room .written ≤ room
+unfolding refused accept
+written-le ws xs room = by-case ws xs room (λ a. a .written ≤ room) (λ n. omega arith) (λ t k. omega arith) (λ t k. k)
+
+-- a refusal other than 8 doesn't depend on what is to be written or on the room
+pub same-refusal : (ws xs ys : List ℕ) (m n c : ℕ) → (c ≡ 0 → ⊥) → (c ≡ 8 → ⊥) → answerOf ws xs m .code ≡ c → answerOf ws ys n .code ≡ c
+unfolding refused accept
+same-refusal ws xs ys m n c z e =
+    by-case ws xs m (λ a. a .code ≡ c → answerOf ws ys n .code ≡ c) (λ t h. ap (λ (a : Answer). a .code) (seven-before-eight ws ys n t) ∙ h)
+    (λ t k h. absurd (e (sym h))) (λ t k h. absurd (z (sym h)))
+
+-- what is accepted isn't turned back, and counts the module's fresh symbols
+pub accepted-fresh : (ws xs : List ℕ) (m : ℕ) → answerOf ws xs m .code ≡ 0 → (turnedBack ws ≡ 0) × (answerOf ws xs m .fresh ≡ length (reportWords ws))
+unfolding refused accept
+accepted-fresh ws xs m =
+    by-case ws xs m (λ a. a .code ≡ 0 → (turnedBack ws ≡ 0) × (a .fresh ≡ length (reportWords ws))) (λ t h. absurd (t h)) (λ t k h. absurd (omega (arith, h))) (λ t k h. (t, refl))
+
+-- the answer with n words lent, by that of a call that had room enough: the same if what that wrote fits, else 8
+pub room-cut : (ws xs : List ℕ) (m n : ℕ) → (turnedBack ws ≡ 0 → length xs ≤ m) →
+    (answerOf ws xs m .written ≤ n → answerOf ws xs m ≡ answerOf ws xs n) × (n < answerOf ws xs m .written → answerOf ws xs n ≡ refused 8)
+unfolding refused accept
+room-cut ws xs m n bound =
+    by-case ws xs m (λ a. (a .written ≤ n → a ≡ answerOf ws xs n) × (n < a .written → answerOf ws xs n ≡ refused 8))
+    (λ t. (λ h. sym (seven-before-eight ws xs n t), λ h. absurd (omega arith)))
+    (λ t k. absurd (omega (arith, k, bound t)))
+    (λ t k. (
+      λ h. unfold answerOf in rw (eq-eqb (turnedBack ws) 0 t, le-ltb n (length xs) h),
+      λ h. unfold answerOf in rw (eq-eqb (turnedBack ws) 0 t, lt-ltb n (length xs) h),
+    ))
+
 -- "A refusal leaves output untouched"
 pub untouched : (r : Answer) (xs o : List ℕ) → (r .code ≡ 0 → ⊥) → lentAfter r xs o ≡ o
 unfolding lentAfter
@@ -49,15 +94,8 @@ not-turned-back ws e = go (eqb (refusal ws) 0) refl e
     go false f e = e
 
 enough : (ws xs : List ℕ) (room : ℕ) → (refusal ws ≡ 0 → length xs ≤ room) → answerOf ws xs room .code ≡ turnedBack ws
-unfolding answerOf refused accept
-enough ws xs room h = go (eqb (turnedBack ws) 0) refl
-  where
-    go : (b : Bool) → eqb (turnedBack ws) 0 ≡ b →
-        cond b (cond (ltb room (length xs)) (refused 8) (accept (length xs) (length (reportWords ws)))) (refused (turnedBack ws)) .code ≡ turnedBack ws
-    go true e =
-        let z : turnedBack ws ≡ 0 = eqb-true (turnedBack ws) 0 e in
-        rw (le-ltb room (length xs) (h (not-turned-back ws z))) (sym z)
-    go false e = refl
+unfolding refused accept
+enough ws xs room h = by-case ws xs room (λ a. a .code ≡ turnedBack ws) (λ n. refl) (λ t k. absurd (omega (arith, k, h (not-turned-back ws t)))) (λ t k. sym t)
 
 -- three times the input's words are room enough for the rewriting, a third of them for the report
 pub rewriting-room : (ws o : List ℕ) → 3 * length ws ≤ length o → rewriteAnswer ws o .code ≡ turnedBack ws

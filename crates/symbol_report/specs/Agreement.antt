@@ -1,12 +1,10 @@
 -- The report and the rewriting of one module agree: the same refusals but for 8, as many fresh symbols, and a word of the report for each symbol
 -- of the rewritten module that was not read. Assumes nothing.
-use mathlib.Core.Path.{_≡_, refl, ap, sym, subst, _∙_}
-use mathlib.Core.Bool.{Bool, true, false, cond}
+use mathlib.Core.Path.{_≡_, sym, subst, _∙_}
+use mathlib.Core.Bool.{true}
 use mathlib.Core.List.{List}
 use Prim.Native.Nat.{ℕ, _+_, _<_, _≤_}
 use native.Mathlib.Omega.{arith}
-use lib.Dec.{eqb, ltb}
-use borrow.Author.Tests.{eqb-true, eqb-false}
 use lib.ListN.{length, getD}
 use Rattle.words.specs.Word.{kindOf, payloadOf}
 use Rattle.records.specs.Label.{Label, readAt}
@@ -14,37 +12,10 @@ use Rattle.records.specs.Place.{recordsAt, labelAt, records-node}
 use Rattle.grammar.specs.Grammar.{isSymbol}
 use Rattle.grammar.specs.Scan.{refusal, symbolsOf}
 use Rattle.grammar.specs.WellFormed.{Each, Known}
-use Rattle.rewriting.specs.Answer.{Answer, accepted, refused, turnedBack, moduleWords, reportWords, answerOf, rewriteAnswer, reportAnswer, countIf, Reordered}
-use Rattle.rewriting.specs.Room.{isOf, OneEach, one-each, not-turned-back}
+use Rattle.rewriting.specs.Answer.{turnedBack, moduleWords, reportWords, rewriteAnswer, reportAnswer, countIf, Reordered}
+use Rattle.rewriting.specs.Room.{isOf, one-each, not-turned-back, same-refusal, accepted-fresh}
 use Rattle.rewriting.specs.ReadAgain.{symbols-count, below-forty}
 use Rattle.rewriter.specs.Start.{records-tree, each-at, each-first}
-
--- ---- the numbers
-
--- the answer of a call that writes xs or ys of the same module
-module _ (ws xs ys : List ℕ) (m n : ℕ) where
-  -- a refusal other than 8 doesn't depend on what is to be written or on the room
-  pub same-refusal : (c : ℕ) → (c ≡ 0 → ⊥) → (c ≡ 8 → ⊥) → answerOf ws xs m .code ≡ c → answerOf ws ys n .code ≡ c
-  unfolding answerOf accepted refused
-  same-refusal c z e h = go (eqb (turnedBack ws) 0) (ltb m (length xs)) h
-    where
-      go : (b d : Bool) → cond b (cond d (refused 8) (accepted (length xs) (length (reportWords ws)))) (refused (turnedBack ws)) .code ≡ c →
-          cond b (cond (ltb n (length ys)) (refused 8) (accepted (length ys) (length (reportWords ws)))) (refused (turnedBack ws)) .code ≡ c
-      go true true h = absurd (e (sym h))
-      go true false h = absurd (z (sym h))
-      go false d h = h
-
--- what is accepted isn't turned back, and counts the module's fresh symbols
-pub accepted-fresh : (ws xs : List ℕ) (m : ℕ) → answerOf ws xs m .code ≡ 0 → (turnedBack ws ≡ 0) × (answerOf ws xs m .fresh ≡ length (reportWords ws))
-unfolding answerOf accepted refused
-accepted-fresh ws xs m h = go (eqb (turnedBack ws) 0) refl (ltb m (length xs)) h
-  where
-    go : (b : Bool) → eqb (turnedBack ws) 0 ≡ b → (d : Bool) →
-        cond b (cond d (refused 8) (accepted (length xs) (length (reportWords ws)))) (refused (turnedBack ws)) .code ≡ 0 →
-        (turnedBack ws ≡ 0) × (cond b (cond d (refused 8) (accepted (length xs) (length (reportWords ws)))) (refused (turnedBack ws)) .fresh ≡ length (reportWords ws))
-    go true e true h = absurd (omega (arith, h))
-    go true e false h = (eqb-true (turnedBack ws) 0 e, refl)
-    go false e d h = absurd (eqb-false (turnedBack ws) 0 e h)
 
 -- ---- the symbols of the rewritten module
 

@@ -5,8 +5,10 @@ use inspect::NONE;
 use report_walk::Reported;
 use rewriter::Answer;
 ghost use mathlib.Core.Path.{_≡_};
+ghost use lib.Dec.{leb};
+ghost use lib.ListN.{length};
 ghost use Rattle.grammar.specs.Scan.{refusal};
-ghost use Rattle.rewriting.specs.Answer.{reportAnswer, ReportLent};
+ghost use Rattle.rewriting.specs.Answer.{reportWords, reportAnswer, ReportLent};
 ghost use Rattle.counter.specs.Contract.{Planned};
 ghost use Rattle.rewriter.specs.Numbers.{numbersOf};
 ghost use Rattle.symbol_report.specs.Result.{WritesReport};
@@ -26,9 +28,7 @@ pub fn report(ws: &[u32], out: &mut [u32]) -> Answer
     }
     let mut notes = [0u32; 4096];
     alias_table::find_aliases(ws, &mut notes);
-    let mut none = [0u32; 0];
-    let m = write_report(ws, &notes, &mut none);
-    if out.len() < m.pos {
+    if !has_room(ws, &notes, out.len()) {
         return Answer {
             code: 8,
             written: 0,
@@ -41,6 +41,19 @@ pub fn report(ws: &[u32], out: &mut [u32]) -> Answer
         written: r.pos,
         fresh: r.next - inspect::payload_at(ws, 1),
     }
+}
+
+// Whether `room` words are enough for the module's report. A third of its words always are (`report-length`); else they are counted.
+fn has_room(ws: &[u32], notes: &[u32], room: usize) -> bool
+    requires { ⌜ (refusal (now ws) ≡ 0) × Planned (now ws) (now notes) ⌝ }
+    ensures { λ r. ⌜ r ≡ leb (length (reportWords (now (ws .entry)))) room ⌝ }
+{
+    if ws.len() / 3 <= room {
+        return true;
+    }
+    let mut none = [0u32; 0];
+    let m = write_report(ws, notes, &mut none);
+    m.pos <= room
 }
 
 // The module's report, at the start of the output, cut where that ends.

@@ -1,3 +1,4 @@
+-- `write_module`: the walker's answer for the whole module, with an empty class stack and the counter at S.
 use Rattle.rewriter.specs.Result.{startScope, start-asks, start-writes-at, symbols-word}
 use Rattle.rewriter.specs.Start.{start-inside}
 use Rattle.transform.specs.Contract.{hereAt, Asks}
@@ -8,21 +9,13 @@ use mathlib.Core.Path.{_≡_, sym, subst, _∙_}
 use borrow.Author.Needs.{needs}
 use Rattle.rewriter.proofs.write_module.Statement.{statement}
 use Rattle.rewriter.proofs.write_module.Tie as tie
-use Rattle.rewriter.proofs.write_module.Reads as reads
-use Rattle.rewriter.proofs.write_module.Lts as lts
-use Rattle.class_stack.proofs.empty.Reads as empty-reads
-use Rattle.inspect.proofs.payload_at.Reads as payload-at-reads
-use Rattle.transform.proofs.record.Reads as record-reads
 
--- src/lib.rt:76:9
 payload-at-requires : tie.Need-payload-at-requires
 payload-at-requires c κs = search needs
 
--- src/lib.rt:89:9
 empty-requires : tie.Need-empty-requires
 empty-requires c κs = search needs
 
--- src/lib.rt:77:5
 record-requires : tie.Need-record-requires
 record-requires c κs =
     let g = c .before .before .before .before .before .before .args in
@@ -30,11 +23,9 @@ record-requires c κs =
     let e = sym (c .before .before .payload-at .ensures .0 ∙ symbols-word ws) in
     (subst (λ (s : ℕ). Asks ws (g .notes .now) 0 1 s (c .before .empty .result) 0 (size (hereAt ws 0 1 startScope (record { next = s; default = 67108864 })))) e (start-asks ws (c .before .before .before .before .before .before .pre .0) (c .before .empty .result) (c .before .empty .ensures .0) (g .notes .now) (c .before .before .before .before .before .before .pre .1) (c .before .empty .ensures .1)), start-inside ws (c .before .before .before .before .before .before .pre .0))
 
--- src/lib.rt:72:1
 same-length : tie.Need-same-length
 same-length c = search needs
 
--- src/lib.rt:72:1
 returns : tie.Need-returns
 returns c =
     let g = c .before .before .before .before .before .before .before .before .before .args in
