@@ -31,7 +31,7 @@ use Rattle.class_stack.specs.declared.ClassStack.{ClassStack}
 use Rattle.inspect.specs.Child.{optOf, opt-none}
 use Rattle.walk_laws.specs.Rows.{visitAt}
 use Rattle.walk_laws.specs.Written.{wordBy, written}
-use Rattle.counter.specs.Contract.{aroundOf, stateOf, Planned, Ready}
+use Rattle.counter.specs.Contract.{aroundOf, stateOf, Planned, Annotated, Ready}
 use Rattle.counter.specs.declared.Scope.{Scope}
 use Rattle.counter.specs.declared.Count.{Count}
 use Rattle.transform.specs.Under.{wordUnder, written-same, under-none}
@@ -112,11 +112,12 @@ module _ (ws : List ℕ) (ok : refusal ws ≡ 0) where
     start-nest : nestAt ws 0 1 ≤ capacity
     start-nest = omega (arith, start-tree, nest-height (treeOf ws) (well ws ok .fits), well ws ok .depth)
 
-    pub start-asks : (notes : List ℕ) → Planned ws notes → StackReady c → Asks ws notes 0 1 (symbolsOf ws) c 0 (size (hereAt ws 0 1 startScope (startCount ws)))
-    start-asks notes p r = record {
+    pub start-asks : (notes : List ℕ) → Planned ws notes → Annotated ws notes 0 → StackReady c → Asks ws notes 0 1 (symbolsOf ws) c 0 (size (hereAt ws 0 1 startScope (startCount ws)))
+    start-asks notes p t r = record {
       ready = start-ready ws ok notes p;
+      noted = t;
       stack = r;
-      deep = omega (arith, start-nest, no-entries (c .symbols) (c .notes) (c .depth) empty);
+      deep = omega (arith, start-nest, no-entries (c .symbols) (c .aliases) (c .depth) empty);
       fit = omega (arith, start-size, module-length ws ok, well ws ok .sized .few);
     }
 

@@ -105,6 +105,9 @@ module _ (ws : List ℕ) (ok : refusal ws ≡ 0) where
     room = omega (arith, well .count, well .sized .few);
   }
 
+  pub ready-at : {notes : List ℕ} (s : ℕ) → s ≡ symbolsOf ws → Planned ws notes → Ready ws notes 0 s
+  ready-at {notes} s e p = subst (λ (n : ℕ). Ready ws notes 0 n) (sym e) (start-ready notes p)
+
   -- a module is one record
   one-record : (f : Trees) → Fits (module′ ∷ []) f → takeF 1 f ≡ f
   unfolding Fits takeF

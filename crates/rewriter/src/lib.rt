@@ -4,14 +4,14 @@ use counter::Scope;
 use inspect::NONE;
 ghost use mathlib.Core.Path.{_≡_};
 ghost use mathlib.Core.List.{List};
-ghost use Prim.Native.Nat.{ℕ};
+ghost use Prim.Native.Nat.{ℕ, _≤_};
 ghost use lib.Dec.{leb};
 ghost use lib.ListN.{length, take};
 ghost use Rattle.grammar.specs.Scan.{refusal, symbolsOf};
 ghost use Rattle.rewriting.specs.Answer.{turnedBack, moduleWords, rewriteAnswer, rewriteLent};
 ghost use Rattle.rewriting.specs.DemandWords.{DemandWords};
 ghost use Rattle.output.specs.Overlay.{Wrote};
-ghost use Rattle.counter.specs.Contract.{Planned};
+ghost use Rattle.counter.specs.Contract.{Planned, Annotated};
 ghost use Rattle.rewriter.specs.Numbers.{numbersOf};
 ghost use Rattle.rewriter.specs.Result.{Writes};
 
@@ -37,7 +37,7 @@ pub fn rewrite(ws: &[u32], out: &mut [u32]) -> Answer
         };
     }
     let mut notes = [0u32; 4096];
-    alias_table::find_aliases(ws, &mut notes);
+    annotate(ws, &mut notes);
     if !has_room(ws, &notes, out.len()) {
         return Answer {
             code: 8,
@@ -67,9 +67,18 @@ pub fn turned_back(ws: &[u32]) -> u32
     0
 }
 
+// What is noted of each place of the words: whether its class takes an alias, how many fresh symbols its record takes, where it ends.
+fn annotate(ws: &[u32], notes: &mut [u32])
+    requires { ⌜ (refusal (now ws) ≡ 0) × (length (now ws) ≤ length (now notes)) ⌝ }
+    ensures { λ r. ⌜ Planned (now (ws .entry)) (now (notes .exit)) × Annotated (now (ws .entry)) (now (notes .exit)) 0 × (length (now (notes .exit)) ≡ length (now (notes .entry))) ⌝ }
+{
+    alias_table::find_aliases(ws, notes);
+    count_table::find_counts(ws, notes, inspect::payload_at(ws, 1));
+}
+
 // Whether `room` words are enough for what the module becomes. Three times its words always are (`module-length`); else they are counted.
 fn has_room(ws: &[u32], notes: &[u32], room: usize) -> bool
-    requires { ⌜ (refusal (now ws) ≡ 0) × Planned (now ws) (now notes) ⌝ }
+    requires { ⌜ (refusal (now ws) ≡ 0) × Planned (now ws) (now notes) × Annotated (now ws) (now notes) 0 ⌝ }
     ensures { λ r. ⌜ r ≡ leb (length (moduleWords (now (ws .entry)))) room ⌝ }
 {
     if ws.len() <= room / 3 {
@@ -82,7 +91,7 @@ fn has_room(ws: &[u32], notes: &[u32], room: usize) -> bool
 
 // What the module becomes, at the start of the output, cut where that ends.
 fn write_module(ws: &[u32], notes: &[u32], out: &mut [u32]) -> transform::Went
-    requires { ⌜ (refusal (now ws) ≡ 0) × Planned (now ws) (now notes) ⌝ }
+    requires { ⌜ (refusal (now ws) ≡ 0) × Planned (now ws) (now notes) × Annotated (now ws) (now notes) 0 ⌝ }
     ensures { λ r. ⌜ Writes (now (ws .entry)) (now (out .entry)) (now (out .exit)) r ⌝ }
 {
     let s = inspect::payload_at(ws, 1);

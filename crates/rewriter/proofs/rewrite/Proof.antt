@@ -6,7 +6,7 @@ use borrow.Author.Tests.{leb-true, leb-false, not-true, not-false}
 use Rattle.rewriting.specs.Room.{not-turned-back}
 use Rattle.rewriting.specs.Answer.{moduleWords, rewriteAnswer, rewriteLent}
 use Rattle.rewriter.specs.Numbers.{numbersOf}
-use Rattle.rewriter.specs.Start.{well, start-fits}
+use Rattle.rewriter.specs.Start.{well}
 use Rattle.rewriter.specs.Result.{written-whole, answer-back, answer-8, lent-back, symbols-word}
 use borrow.Author.Needs.{needs}
 use Rattle.rewriter.proofs.rewrite.Statement.{statement}
@@ -22,20 +22,20 @@ returns c =
     let n = answer-back (g .ws .now) (moduleWords (g .ws .now)) (g .out .now) (c .before .turned-back .result) (c .before .turned-back .ensures) (c .if1 .taken) in
     (n, (lent-back (g .ws .now) (moduleWords (g .ws .now)) (g .out .now) (record { code = c .before .turned-back .result; written = 0; fresh = 0 }) n (c .if1 .taken) (moduleWords (g .ws .now)), λ z. absurd (c .if1 .taken z)))
 
-slice-aggregate-find-aliases : tie.Need-slice-aggregate-find-aliases
-slice-aggregate-find-aliases c = search needs
+slice-aggregate-annotate : tie.Need-slice-aggregate-annotate
+slice-aggregate-annotate c = search needs
 
-find-aliases-requires : tie.Need-find-aliases-requires
-find-aliases-requires c κs =
+annotate-requires : tie.Need-annotate-requires
+annotate-requires c κs =
     let ws = c .before .before .before .before .before .args .ws .now in
     let ok = not-turned-back ws (sym (c .before .before .turned-back .ensures) ∙ c .before .if1 .left) in
-    (omega (arith, well ws ok .sized .few), start-fits ws ok)
+    (ok, omega (arith, well ws ok .sized .few))
 
 slice-aggregate-has-room : tie.Need-slice-aggregate-has-room
 slice-aggregate-has-room c = search needs
 
 has-room-requires : tie.Need-has-room-requires
-has-room-requires c κs = (not-turned-back (c .before .before .before .before .before .before .before .before .args .ws .now) (sym (c .before .before .before .before .before .turned-back .ensures) ∙ c .before .before .before .before .if1 .left), c .before .before .find-aliases .ensures .0)
+has-room-requires c κs = (not-turned-back (c .before .before .before .before .before .before .before .before .args .ws .now) (sym (c .before .before .before .before .before .turned-back .ensures) ∙ c .before .before .before .before .if1 .left), c .before .before .annotate .ensures .0, c .before .before .annotate .ensures .1)
 
 returns-2 : tie.Need-returns-2
 unfolding numbersOf rewriteAnswer rewriteLent
@@ -49,7 +49,7 @@ slice-aggregate-write-module : tie.Need-slice-aggregate-write-module
 slice-aggregate-write-module c = search needs
 
 write-module-requires : tie.Need-write-module-requires
-write-module-requires c κs = (not-turned-back (c .before .before .before .before .before .before .before .before .before .before .before .before .args .ws .now) (sym (c .before .before .before .before .before .before .before .before .before .turned-back .ensures) ∙ c .before .before .before .before .before .before .before .before .if1 .left), c .before .before .before .before .before .before .find-aliases .ensures .0)
+write-module-requires c κs = (not-turned-back (c .before .before .before .before .before .before .before .before .before .before .before .before .args .ws .now) (sym (c .before .before .before .before .before .before .before .before .before .turned-back .ensures) ∙ c .before .before .before .before .before .before .before .before .if1 .left), c .before .before .before .before .before .before .annotate .ensures .0, c .before .before .before .before .before .before .annotate .ensures .1)
 
 payload-at-requires : tie.Need-payload-at-requires
 payload-at-requires c κs = search needs
@@ -75,8 +75,8 @@ rewrite-spec =
     (tie.spec
     turned-back-requires
     returns
-    slice-aggregate-find-aliases
-    find-aliases-requires
+    slice-aggregate-annotate
+    annotate-requires
     slice-aggregate-has-room
     has-room-requires
     returns-2

@@ -21,7 +21,7 @@ record-requires c κs =
     let g = c .before .before .before .before .before .before .args in
     let ws = g .ws .now in
     let e = sym (c .before .before .payload-at .ensures .0 ∙ symbols-word ws) in
-    (subst (λ (s : ℕ). Asks ws (g .notes .now) 0 1 s (c .before .empty .result) 0 (size (hereAt ws 0 1 startScope (record { next = s; default = 67108864 })))) e (start-asks ws (c .before .before .before .before .before .before .pre .0) (c .before .empty .result) (c .before .empty .ensures .0) (g .notes .now) (c .before .before .before .before .before .before .pre .1) (c .before .empty .ensures .1)), start-inside ws (c .before .before .before .before .before .before .pre .0))
+    (subst (λ (s : ℕ). Asks ws (g .notes .now) 0 1 s (c .before .empty .result) 0 (size (hereAt ws 0 1 startScope (record { next = s; default = 67108864 })))) e (start-asks ws (c .before .before .before .before .before .before .pre .0) (c .before .empty .result) (c .before .empty .ensures .0) (g .notes .now) (c .before .before .before .before .before .before .pre .1) (c .before .before .before .before .before .before .pre .2) (c .before .empty .ensures .1)), start-inside ws (c .before .before .before .before .before .before .pre .0))
 
 same-length : tie.Need-same-length
 same-length c = search needs
