@@ -1,37 +1,23 @@
 -- What an answer writes fits in the output lent. Assumes nothing.
-use mathlib.Core.Path.{_≡_, refl, ap, _∙_}
-use mathlib.Core.Bool.{Bool, true, false, cond}
+use mathlib.Core.Path.{_≡_, ap, _∙_}
 use mathlib.Core.List.{List}
 use Prim.Native.Nat.{ℕ, _≤_}
 use native.Mathlib.Omega.{arith}
-use lib.Dec.{ltb, eqb}
-use borrow.Author.Tests.{ltb-false}
 use lib.ListN.{length}
 use Rattle.output.specs.Overlay.{Wrote, length-overlay}
 use Rattle.line_writer.specs.Decimal.{answerText, length-answer}
-use Rattle.rewriting.specs.Answer.{Answer, answerOf, accepted, refused, turnedBack, reportWords, rewriteAnswer, reportAnswer}
+use Rattle.rewriting.specs.Answer.{Answer, rewriteAnswer, reportAnswer}
+use Rattle.rewriting.specs.Room.{written-le}
 use Rattle.rewriter.specs.declared.Answer.{Answer as Returned}
 use Rattle.rewriter.specs.Numbers.{numbersOf}
 
-by-cases : (x y : Bool) (c n f room : ℕ) → (y ≡ false → n ≤ room) → cond x (cond y (refused 8) (accepted n f)) (refused c) .written ≤ room
-unfolding accepted refused
-by-cases true true c n f room h = omega arith
-by-cases true false c n f room h = h refl
-by-cases false y c n f room h = omega arith
-
-written-fits : (ws xs : List ℕ) (room : ℕ) → answerOf ws xs room .written ≤ room
-unfolding answerOf
-written-fits ws xs room =
-    by-cases (eqb (turnedBack ws) 0) (ltb room (length xs)) (turnedBack ws) (length xs) (length (reportWords ws)) room
-    (λ e. ltb-false room (length xs) e)
-
 pub rewrite-fits : (r : Returned) (ws o : List ℕ) → numbersOf r ≡ rewriteAnswer ws o → r .written ≤ length o
 unfolding numbersOf rewriteAnswer
-rewrite-fits r ws o e = rw (ap (λ (a : Answer). a .written) e) (written-fits ws _ (length o))
+rewrite-fits r ws o e = rw (ap (λ (a : Answer). a .written) e) (written-le ws _ (length o))
 
 pub report-fits : (r : Returned) (ws o : List ℕ) → numbersOf r ≡ reportAnswer ws o → r .written ≤ length o
 unfolding numbersOf reportAnswer
-report-fits r ws o e = rw (ap (λ (a : Answer). a .written) e) (written-fits ws _ (length o))
+report-fits r ws o e = rw (ap (λ (a : Answer). a .written) e) (written-le ws _ (length o))
 
 -- the text of an answer of at most 12,288 words fits in 147,519 bytes
 pub text-fits : {o : List ℕ} (a b c : ℕ) (ws : List ℕ) {o′ : List ℕ} {n : ℕ} → Wrote o 0 (answerText a b c ws) o′ n → length ws ≤ 12288 → 147519 ≡ length o → n ≤ length o′

@@ -1,7 +1,8 @@
 // The C entry: a module's bytes in, the bytes of what it becomes out, one number back. Keeps nothing between calls.
 use rewriter::Answer;
 ghost use mathlib.Core.Path.{_≡_};
-ghost use Prim.Native.Nat.{_+_, _*_, _/_, _≤_, min};
+ghost use Prim.Native.Nat.{_+_, _*_, _/_, _≤_};
+ghost use lib.Dec.{ltb};
 ghost use lib.ListN.{length, take};
 ghost use Rattle.output.specs.Overlay.{overlay};
 ghost use Rattle.rewriting.specs.DemandWords.{DemandWords};
@@ -23,10 +24,12 @@ pub extern "C" fn gingerpost_rewrite(bytes: &[u8], out: &mut [u8]) -> u64
     let mut ws = [0u32; 4096];
     pack(bytes, &mut ws);
     // A rewritten module has at most three times the words read (`module-length`).
-    let room = words_within(out.len(), 12288);
     let mut written = [0u32; 12288];
-    let r = rewriter::rewrite(&ws[..n], &mut written[..room]);
+    let r = rewriter::rewrite(&ws[..n], &mut written);
     let m = r.written;
+    if is_short(out.len(), m) {
+        return 8;
+    }
     unpack(&written[..m], out);
     number(r)
 }
@@ -44,10 +47,12 @@ pub extern "C" fn gingerpost_report(bytes: &[u8], out: &mut [u8]) -> u64
     let mut ws = [0u32; 4096];
     pack(bytes, &mut ws);
     // A report has at most a third of the words read (`report-length`).
-    let room = words_within(out.len(), 1365);
     let mut written = [0u32; 1365];
-    let r = symbol_report::report(&ws[..n], &mut written[..room]);
+    let r = symbol_report::report(&ws[..n], &mut written);
     let m = r.written;
+    if is_short(out.len(), m) {
+        return 8;
+    }
     unpack(&written[..m], out);
     number(r)
 }
@@ -107,15 +112,11 @@ fn store_word(out: &mut [u8], at: usize, w: u32)
     out[at + 3] = (w >> 24 & 255) as u8;
 }
 
-// The whole words of so many bytes, but no more than `most`.
-fn words_within(bytes: usize, most: usize) -> usize
-    ensures { λ r. ⌜ r ≡ min (bytes / 4) most ⌝ }
+// Whether an output of so many bytes is too short for so many words: its whole words count.
+fn is_short(bytes: usize, words: usize) -> bool
+    ensures { λ r. ⌜ r ≡ ltb (bytes / 4) words ⌝ }
 {
-    let n = bytes >> 2;
-    if most < n {
-        return most;
-    }
-    n
+    bytes >> 2 < words
 }
 
 // The number that holds an answer's three.
