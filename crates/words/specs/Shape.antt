@@ -7,9 +7,8 @@ use Prim.Native.Nat.{ℕ, _+_, _*_, _/_, _%_, _^_, _<_, _≤_}
 use native.Mathlib.Nat.{zero-add}
 use native.Mathlib.Omega.{arith}
 use lib.Dec.{T, eqb, eqb→eq}
-use lib.ListN.{getD, replicate}
 use borrow.Author.Tests.{eq-eqb, ne-eqb}
-use Rattle.words.specs.Table.{lookup, both, every, entry-at}
+use Rattle.words.specs.Table.{lookup, both, every, below-all}
 use Rattle.words.specs.Word.{childTable, children, bit0, bit1, bit2}
 
 -- what the payload adds: 1 as it stands, 2 its low byte, 3 bits 0 and 2, 4 bit 2, 5 bit 1
@@ -161,11 +160,11 @@ unfoldable pub apart : ℕ
 apart = 7618953216
 
 -- the shape of a kind that isn't apart, and of those apart but four
-unfoldable shapeBits : ℕ → ℕ → Bool
-shapeBits k x = cond (eqb (bitOf apart k) 0) (eqb (shapeOf k) (16 * bitOf one k + bitOf many k)) true
+unfoldable shapeBits : ℕ → Bool
+shapeBits k = cond (eqb (bitOf apart k) 0) (eqb (shapeOf k) (16 * bitOf one k + bitOf many k)) true
 
-unfoldable shapeApart : ℕ → ℕ → Bool
-shapeApart k x = cond (eqb (bitOf apart k) 1) (cond (eqb k 25) true (cond (eqb k 26) true (cond (eqb k 30) true (cond (eqb k 31) true (eqb (shapeOf k) 32))))) true
+unfoldable shapeApart : ℕ → Bool
+shapeApart k = cond (eqb (bitOf apart k) 1) (cond (eqb k 25) true (cond (eqb k 26) true (cond (eqb k 30) true (cond (eqb k 31) true (eqb (shapeOf k) 32))))) true
 
 yes : (b c : Bool) → b ≡ true → T (cond b c true) → T c
 yes b c e t = subst (λ (x : Bool). T (cond x c true)) e t
@@ -195,19 +194,16 @@ by-none a p =
     rw (d, m) (omega arith)
 
 module _ (k p : ℕ) (h : k < 64) where
-  passed : (f : ℕ → ℕ → Bool) → T (every f 0 (replicate 64 0)) → T (f k (getD (replicate 64 0) k 0))
-  passed f t = entry-at f (replicate 64 0) t k h
-
   pub apart-children : bitOf apart k ≡ 1 → (k ≡ 25 → ⊥) → (k ≡ 26 → ⊥) → (k ≡ 30 → ⊥) → (k ≡ 31 → ⊥) → childrenBy p (shapeOf k) ≡ 2
   unfolding childrenBy counted lookup shapeApart every both bitOf apart shapeOf shapes
   apart-children e a b c d =
-      let t = no _ _ (ne-eqb k 31 d) (no _ _ (ne-eqb k 30 c) (no _ _ (ne-eqb k 26 b) (no _ _ (ne-eqb k 25 a) (yes _ _ (eq-eqb (bitOf apart k) 1 e) (passed shapeApart tt))))) in
+      let t = no _ _ (ne-eqb k 31 d) (no _ _ (ne-eqb k 30 c) (no _ _ (ne-eqb k 26 b) (no _ _ (ne-eqb k 25 a) (yes _ _ (eq-eqb (bitOf apart k) 1 e) (below-all shapeApart 64 tt k h))))) in
       ap (childrenBy p) (eqb→eq (shapeOf k) 32 t)
 
   module _ (e : bitOf apart k ≡ 0) where
     kept : shapeOf k ≡ 16 * bitOf one k + bitOf many k
     unfolding shapeBits every both bitOf apart one many shapeOf shapes lookup
-    kept = eqb→eq (shapeOf k) (16 * bitOf one k + bitOf many k) (yes _ _ (eq-eqb (bitOf apart k) 0 e) (passed shapeBits tt))
+    kept = eqb→eq (shapeOf k) (16 * bitOf one k + bitOf many k) (yes _ _ (eq-eqb (bitOf apart k) 0 e) (below-all shapeBits 64 tt k h))
 
     pub many-children : (bitOf many k ≡ 0 → ⊥) → bitOf one k + p ≡ children k p
     many-children n =

@@ -57,12 +57,11 @@ const MANY: u64 = 1 << 1
 // The kinds whose children are counted in other ways.
 const APART: u64 = 1 << 21 | 1 << 25 | 1 << 26 | 1 << 30 | 1 << 31 | 1 << 32;
 
-// 1 if the kind is in the set, or 0.
-fn bit(set: u64, kind: u32) -> u32
-    requires { ⌜ kind < 64 ⌝ }
-    ensures { λ r. ⌜ (r ≡ bitOf set kind) × (r < 2) ⌝ }
+// 1 if the word's kind is in the set, or 0.
+pub fn kind_bit(set: u64, w: u32) -> u32
+    ensures { λ r. ⌜ (r ≡ bitOf set (kindOf w)) × (r < 2) ⌝ }
 {
-    ((set >> kind) & 1) as u32
+    ((set >> (w >> 26)) & 1) as u32
 }
 
 // The number of children of a record of a kind in APART.
@@ -83,14 +82,12 @@ fn counted_apart(kind: u32, payload: u32) -> u32
 pub fn child_count(w: u32) -> u32
     ensures { λ r. ⌜ r ≡ children (kindOf w) (payloadOf w) ⌝ }
 {
-    let kind = kind_of(w);
-    let payload = payload_of(w);
-    if bit(APART, kind) != 0 {
-        return counted_apart(kind, payload);
+    if kind_bit(APART, w) != 0 {
+        return counted_apart(kind_of(w), payload_of(w));
     }
-    let one = bit(ONE, kind);
-    if bit(MANY, kind) != 0 {
-        return one + payload;
+    let one = kind_bit(ONE, w);
+    if kind_bit(MANY, w) != 0 {
+        return one + payload_of(w);
     }
     one
 }
