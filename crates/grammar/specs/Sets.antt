@@ -2,7 +2,7 @@
 use mathlib.Core.Path.{_≡_, refl, sym, ap, subst, _∙_}
 use mathlib.Core.Bool.{Bool, true, false, cond}
 use mathlib.Core.List.{List, [], _∷_}
-use Prim.Native.Nat.{ℕ, _<_, _^_, _/_}
+use Prim.Native.Nat.{ℕ, _<_, _^_}
 use native.Mathlib.Nat.{zero-div}
 use native.Mathlib.Omega.{arith}
 use lib.Dec.{T, eqb, eqb→eq}
@@ -11,7 +11,8 @@ use borrow.Author.Tests.{eqb-true, eq-eqb, ne-eqb}
 use Rattle.words.specs.Table.{lookup, both, every, below-all}
 use Rattle.words.specs.Shape.{bitOf, bit-one}
 use Rattle.grammar.specs.Grammar.{Slot, slot, row, noRow, table, rowOf, holds, allowed, any, zeroOnly, twoOrFour, methodFlags, twoFlags, oneFlag, classFlags, classStatement, inContext, decoratorCount}
-use Rattle.grammar.specs.Rows.{test-left, test-right, implied, allowed-row, allowed-known}
+use Rattle.grammar.specs.Rows.{test-left, test-right, implied, allowed-row, allowed-known, soleKind, kind-sole}
+use Rattle.grammar.specs.Scan.{place, tooManySymbols, decoratedConstructor}
 
 -- of each category its kinds
 unfoldable pub kindSets : List (ℕ × ℕ)
@@ -113,3 +114,19 @@ module _ (k c : ℕ) (h : k < 64) where
         pub flag-in : bitOf empty k ≡ 0 → allowed (slot c x) k p ≡ holds (flagRule k) x p
         unfolding ruleBy
         flag-in e = by-rule ∙ rw (f, e)
+
+-- ---- the kinds that have a limit of their own, 28 and 40: no other can have the last two faults
+
+unfoldable pub limited : ℕ
+limited = 1099780063232
+
+unlimited : (k n : ℕ) → bitOf limited n ≡ 1 → bitOf limited k ≡ 0 → k ≡ n → ⊥
+unlimited k n o z e = let y : _≡_ {A = ℕ} 0 1 = sym z ∙ ap (bitOf limited) e ∙ o in omega arith
+
+pub few-symbols : (k p : ℕ) → bitOf limited k ≡ 0 → tooManySymbols k p ≡ false
+unfolding tooManySymbols bitOf limited
+few-symbols k p z = rw (ne-eqb k 40 (unlimited k 40 refl z))
+
+pub undecorated : (c x d k p : ℕ) → allowed (slot c x) k p ≡ true → bitOf limited k ≡ 0 → decoratedConstructor (place (slot c x) d) p ≡ false
+unfolding decoratedConstructor place bitOf limited soleKind lookup
+undecorated c x d k p a z = rw (ne-eqb c 7 (λ e. unlimited k 28 refl z (kind-sole k 7 (allowed-row (slot c x) k p a .0 ∙ e) tt)))

@@ -105,6 +105,9 @@ const FREE: u64 = 1 << 1
 // The kinds with no payload but 0.
 const EMPTY: u64 = 1 << 2 | 1 << 13 | 1 << 14 | 1 << 15 | 1 << 20 | 1 << 21 | 1 << 24;
 
+// The kinds that have a limit of their own: decorators and symbols.
+const LIMITED: u64 = 1 << 28 | 1 << 40;
+
 // The kinds of a category.
 fn kinds_of(category: u8) -> u64
     ensures { λ r. ⌜ r ≡ kindsOf category ⌝ }
@@ -234,6 +237,9 @@ pub fn fault(s: u32, category: u8, context: u32, left: u32, w: u32) -> u32
     }
     if is_unknown_symbol(s, kind, payload) {
         return 4;
+    }
+    if words::kind_bit(LIMITED, w) == 0 {
+        return 0;
     }
     if is_too_many_symbols(kind, payload) {
         return 5;
