@@ -3,6 +3,7 @@ pub mod Grammar
 pub mod Scan
 pub mod WellFormed
 pub mod Rows
+pub mod Sets
 pub mod Faults
 pub mod Places
 pub mod Refused

@@ -2,7 +2,7 @@
 use mathlib.Core.Path.{_≡_, refl, sym, ap, subst, _∙_}
 use mathlib.Core.Bool.{Bool, true, false, cond, not}
 use mathlib.Core.List.{List, [], _∷_}
-use Prim.Native.Nat.{ℕ, _+_, _<_}
+use Prim.Native.Nat.{ℕ, _+_}
 use native.Mathlib.Omega.{arith}
 use lib.ListN.{length, replicate, length-append, length-replicate}
 use lib.Dec.{eqb, ltb, T, eqb→eq, ltb→lt}
@@ -55,10 +55,6 @@ each-row f t k h = all-rows (λ n r. T (f n r)) (each-all f table t) k h
 pub implied : (a b : Bool) → T (cond a b true) → a ≡ true → T b
 implied true b t e = t
 implied false b t e = let z : _≡_ {A = ℕ} 0 1 = cc in absurd (omega arith)
-
-pub rule-lt : (k : ℕ) → rowOf k .rule < 16
-unfolding each table row noRow
-rule-lt k = ltb→lt (rowOf k .rule) 16 (each-row (λ n r. ltb (r .rule) 16) tt k tt)
 
 -- ---- a word that may stand in a slot
 

@@ -1,8 +1,10 @@
 // The grammar's leaves: the limits, the categories of records and, of one word, whether it may stand at a place and which refusal it is.
 ghost use mathlib.Core.Path.{_≡_};
-ghost use Prim.Native.Nat.{_+_, _-_, _*_, _<_};
+ghost use Prim.Native.Nat.{_+_, _-_};
 ghost use Rattle.grammar.specs.Limits.{maxDepth};
-ghost use Rattle.grammar.specs.Grammar.{slot, rowOf, holds, allowed, isSymbol};
+ghost use Rattle.words.specs.Word.{kindOf, payloadOf};
+ghost use Rattle.grammar.specs.Grammar.{slot, holds, allowed, isSymbol};
+ghost use Rattle.grammar.specs.Sets.{kindsOf, flagRule};
 ghost use Rattle.grammar.specs.Scan.{place, unknownSymbol, tooManySymbols, decoratedConstructor, faultAt};
 
 // The most words of a module.
@@ -52,116 +54,93 @@ pub const OF_FUNCTION: u32 = 2;
 
 pub const CLASS_EXPRESSION: u32 = 3;
 
-// The rules of payloads.
-const ANY: u8 = 0;
+// Sets of kinds, bit k for the kind k: the statements, the expressions, the elements of a class.
+const STATEMENTS: u64 = 1 << 2 | 1 << 3 | 1 << 4 | 1 << 5 | 1 << 6 | 1 << 7;
 
-const ZERO_ONLY: u8 = 1;
+const EXPRESSIONS: u64 = 1 << 8
+    | 1 << 9
+    | 1 << 10
+    | 1 << 11
+    | 1 << 12
+    | 1 << 13
+    | 1 << 14
+    | 1 << 15
+    | 1 << 16
+    | 1 << 17
+    | 1 << 18
+    | 1 << 19
+    | 1 << 20
+    | 1 << 21
+    | 1 << 22
+    | 1 << 23
+    | 1 << 24
+    | 1 << 25
+    | 1 << 34
+    | 1 << 35;
 
-const TWO_OR_FOUR: u8 = 2;
+const ELEMENTS: u64 = 1 << 30 | 1 << 31 | 1 << 32 | 1 << 33;
 
-const METHOD_FLAGS: u8 = 3;
+// The kinds with any payload.
+const FREE: u64 = 1 << 1
+    | 1 << 3
+    | 1 << 5
+    | 1 << 8
+    | 1 << 9
+    | 1 << 10
+    | 1 << 11
+    | 1 << 12
+    | 1 << 16
+    | 1 << 17
+    | 1 << 18
+    | 1 << 19
+    | 1 << 23
+    | 1 << 25
+    | 1 << 27
+    | 1 << 29
+    | 1 << 33
+    | 1 << 36
+    | 1 << 39
+    | 1 << 40;
 
-const TWO_FLAGS: u8 = 4;
+// The kinds with no payload but 0.
+const EMPTY: u64 = 1 << 2 | 1 << 13 | 1 << 14 | 1 << 15 | 1 << 20 | 1 << 21 | 1 << 24;
 
-const ONE_FLAG: u8 = 5;
+// The kinds that have a limit of their own: decorators and symbols.
+const LIMITED: u64 = 1 << 28 | 1 << 40;
 
-const CLASS_FLAGS: u8 = 6;
-
-const CLASS_STATEMENT: u8 = 7;
-
-const IN_CONTEXT: u8 = 8;
-
-const DECORATOR_COUNT: u8 = 9;
-
-const NEVER: u8 = 10;
-
-// Of each kind: 16 times its category, and the rule of its payload.
-const KINDS: [u8; 64] = [
-    NEVER,
-    16 * MODULE + ANY,
-    16 * STATEMENT + ZERO_ONLY,
-    16 * STATEMENT + ANY,
-    16 * STATEMENT + CLASS_STATEMENT,
-    16 * STATEMENT + ANY,
-    16 * STATEMENT + IN_CONTEXT,
-    16 * STATEMENT + IN_CONTEXT,
-    16 * EXPRESSION + ANY,
-    16 * EXPRESSION + ANY,
-    16 * EXPRESSION + ANY,
-    16 * EXPRESSION + ANY,
-    16 * EXPRESSION + ANY,
-    16 * EXPRESSION + ZERO_ONLY,
-    16 * EXPRESSION + ZERO_ONLY,
-    16 * EXPRESSION + ZERO_ONLY,
-    16 * EXPRESSION + ANY,
-    16 * EXPRESSION + ANY,
-    16 * EXPRESSION + ANY,
-    16 * EXPRESSION + ANY,
-    16 * EXPRESSION + ZERO_ONLY,
-    16 * EXPRESSION + ZERO_ONLY,
-    16 * EXPRESSION + TWO_OR_FOUR,
-    16 * EXPRESSION + ANY,
-    16 * EXPRESSION + ZERO_ONLY,
-    16 * EXPRESSION + ANY,
-    16 * CLASS + CLASS_FLAGS,
-    16 * ID + ANY,
-    16 * DECORATORS + DECORATOR_COUNT,
-    16 * BODY + ANY,
-    16 * ELEMENT + METHOD_FLAGS,
-    16 * ELEMENT + TWO_FLAGS,
-    16 * ELEMENT + ONE_FLAG,
-    16 * ELEMENT + ANY,
-    16 * EXPRESSION + IN_CONTEXT,
-    16 * EXPRESSION + IN_CONTEXT,
-    16 * PARAMETERS + ANY,
-    16 * PARAMETER + ONE_FLAG,
-    NEVER,
-    16 * CODE + ANY,
-    16 * SYMBOLS + ANY,
-    NEVER,
-    NEVER,
-    NEVER,
-    NEVER,
-    NEVER,
-    NEVER,
-    NEVER,
-    NEVER,
-    NEVER,
-    NEVER,
-    NEVER,
-    NEVER,
-    NEVER,
-    NEVER,
-    NEVER,
-    NEVER,
-    NEVER,
-    NEVER,
-    NEVER,
-    NEVER,
-    NEVER,
-    NEVER,
-    NEVER,
-];
-
-fn kind_entry(kind: usize) -> u8
-    requires { ⌜ kind < 64 ⌝ }
-    ensures { λ r. ⌜ r ≡ 16 * rowOf kind .category + rowOf kind .rule ⌝ }
+// The kinds of a category.
+fn kinds_of(category: u8) -> u64
+    ensures { λ r. ⌜ r ≡ kindsOf category ⌝ }
 {
-    KINDS[kind]
+    match category {
+        MODULE => 1 << 1,
+        SYMBOLS => 1 << 40,
+        STATEMENT => STATEMENTS,
+        EXPRESSION => EXPRESSIONS,
+        CLASS => 1 << 26,
+        ID => 1 << 27,
+        DECORATORS => 1 << 28,
+        BODY => 1 << 29,
+        ELEMENT => ELEMENTS,
+        PARAMETERS => 1 << 36,
+        PARAMETER => 1 << 37,
+        CODE => 1 << 39,
+        _ => 0,
+    }
 }
 
-// Does a rule allow the payload in a context.
-fn rule_holds(rule: u8, context: u32, payload: u32) -> bool
-    ensures { λ r. ⌜ r ≡ holds rule context payload ⌝ }
+// May a word of a kind that is neither FREE nor EMPTY have the payload in a context.
+fn flags_hold(kind: u32, context: u32, payload: u32) -> bool
+    ensures { λ r. ⌜ r ≡ holds (flagRule kind) context payload ⌝ }
 {
-    match rule {
-        ANY => true,
-        ZERO_ONLY => payload == 0,
-        TWO_OR_FOUR => if payload == 2 { true } else { payload == 4 },
-        METHOD_FLAGS => if payload < 8 { payload % 4 != 3 } else { false },
-        TWO_FLAGS => payload < 4,
-        ONE_FLAG => payload < 2,
-        CLASS_FLAGS => if payload < 8 {
+    match kind {
+        4 => if context == 1 {
+            payload < 3
+        } else {
+            payload == 0
+        },
+        22 => if payload == 2 { true } else { payload == 4 },
+        26 => if payload < 8 {
             if context < 2 {
                 payload % 2 == 1
             } else {
@@ -170,27 +149,30 @@ fn rule_holds(rule: u8, context: u32, payload: u32) -> bool
         } else {
             false
         },
-        CLASS_STATEMENT => if context == 1 {
-            payload < 3
-        } else {
-            payload == 0
-        },
-        IN_CONTEXT => context == 1,
-        DECORATOR_COUNT => if context == 2 { payload == 0 } else { true },
-        _ => false,
+        28 => if context == 2 { payload == 0 } else { true },
+        30 => if payload < 8 { payload % 4 != 3 } else { false },
+        31 => payload < 4,
+        32 => payload < 2,
+        37 => payload < 2,
+        _ => context == 1,
     }
 }
 
 // May a word stand at a place of this category and context.
-fn is_allowed(category: u8, context: u32, kind: u32, payload: u32) -> bool
-    requires { ⌜ kind < 64 ⌝ }
-    ensures { λ r. ⌜ r ≡ allowed (slot category context) kind payload ⌝ }
+fn is_allowed(category: u8, context: u32, w: u32) -> bool
+    ensures { λ r. ⌜ r ≡ allowed (slot category context) (kindOf w) (payloadOf w) ⌝ }
 {
-    let e = kind_entry(kind as usize);
-    if e / 16 != category {
+    if words::kind_bit(kinds_of(category), w) == 0 {
         return false;
     }
-    rule_holds(e % 16, context, payload)
+    if words::kind_bit(FREE, w) != 0 {
+        return true;
+    }
+    let payload = words::payload_of(w);
+    if words::kind_bit(EMPTY, w) != 0 {
+        return payload == 0;
+    }
+    flags_hold(words::kind_of(w), context, payload)
 }
 
 // Is the payload of this kind a symbol.
@@ -247,7 +229,7 @@ pub fn fault(s: u32, category: u8, context: u32, left: u32, w: u32) -> u32
 {
     let kind = words::kind_of(w);
     let payload = words::payload_of(w);
-    if !is_allowed(category, context, kind, payload) {
+    if !is_allowed(category, context, w) {
         return 2;
     }
     if left == 0 {
@@ -255,6 +237,9 @@ pub fn fault(s: u32, category: u8, context: u32, left: u32, w: u32) -> u32
     }
     if is_unknown_symbol(s, kind, payload) {
         return 4;
+    }
+    if words::kind_bit(LIMITED, w) == 0 {
+        return 0;
     }
     if is_too_many_symbols(kind, payload) {
         return 5;

@@ -28,3 +28,7 @@ pub record Other (category : ℕ) : Type 0 where
   pub expression : category ≡ Expression → ⊥
   pub class : category ≡ Class → ⊥
   pub element : category ≡ Element → ⊥
+
+-- what is left of a walk of the places qs from `at` on: that of the places more from p on
+pub record Rest (s : ℕ) (ws : List ℕ) (at : ℕ) (qs : List Place) (p : ℕ) (more : List Place) : Type 0 where
+  pub whole : {r : Step} → Walked s ws p more r → Walked s ws at qs r

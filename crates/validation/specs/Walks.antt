@@ -11,6 +11,7 @@ use lib.Seq.{drop-cons}
 use lib.Dec.{eqb, ltb, T, eqb→eq}
 use borrow.Author.Tests.{eqb-true, ltb-true, eq-eqb, ne-eqb}
 use Rattle.words.specs.Table.{lookup}
+use Rattle.words.specs.Shape.{bitOf}
 use Rattle.words.specs.Word.{kindOf, payloadOf, bit0, bit1, bit2, children}
 use Rattle.grammar.specs.Limits.{maxDepth}
 use Rattle.grammar.specs.Grammar.{slot, Run, Row, row, noRow, leaf, expressions, oneExpression, statements, table, rowOf, holds, symbols, statement, ownStatement, expression, key, classUnder, classExpression, id, decorators, methodDecorators, body, element, methodParameters, functionParameters, parameterOf, parameterDecorators, code, Module, Statement, Expression, Class, Decorators, Body, Element, Parameters, Parameter, Code}
@@ -18,7 +19,7 @@ use Rattle.grammar.specs.Scan.{Place, place, places, below, belowAt, faultAt, j
 use Rattle.grammar.specs.Rows.{each, each-row, implied, test-left, test-right, allowed-row, soleKind, kind-sole, total, total-below}
 use Rattle.grammar.specs.Faults.{Faultless, fault-0}
 use Rattle.validation.specs.declared.Step.{Step}
-use Rattle.validation.specs.Walked.{after, Walked, Here, Other}
+use Rattle.validation.specs.Walked.{after, Walked, Here, Other, Rest}
 
 -- ---- walkers one behind the other
 
@@ -54,25 +55,6 @@ module _ {s : ℕ} {ws : List ℕ} {at : ℕ} where
 
   pub walked-as : {qs more : List Place} {r : Step} → more ≡ qs → Walked s ws at qs r → Walked s ws at more r
   walked-as e t = rw e t
-
-  walked-clear : {qs : List Place} {a : Step} → Walked s ws at qs a → a .fault ≡ 0 → Walked s ws at qs (record { fault = 0; next = a .next })
-  unfolding after
-  walked-clear t z = record { scan = λ st. t .scan st ∙ rw z }
-
--- n records for the place q, i of them walked
-module _ {s : ℕ} {ws : List ℕ} {at : ℕ} (q : Place) where
-  pub walked-next : (i p : ℕ) {a : Step} → Walked s ws at (replicate i q) (record { fault = 0; next = p }) → Walked s ws p (q ∷ []) a → a .fault ≡ 0
-      → Walked s ws at (replicate (i + 1) q) (record { fault = 0; next = a .next })
-  walked-next i p {a} t u z =
-      rw (← replicate-append-replicate i 1 q) (walked-clear (walked-then (replicate i q) (q ∷ []) t refl u) z)
-
-  pub walked-broken : (i n p : ℕ) {a : Step} → i < n → Walked s ws at (replicate i q) (record { fault = 0; next = p }) → Walked s ws p (q ∷ []) a → (a .fault ≡ 0 → ⊥)
-      → Walked s ws at (replicate n q) a
-  walked-broken i n p {a} h t u f =
-      let e : n ≡ i + (1 + (n - (i + 1))) = omega arith in
-      let split : replicate n q ≡ replicate i q ++ (replicate 1 q ++ replicate (n - (i + 1)) q) =
-      ap (λ (m : ℕ). replicate m q) e ∙ sym (replicate-append-replicate i (1 + (n - (i + 1))) q) ∙ ap (replicate i q ++_) (sym (replicate-append-replicate 1 (n - (i + 1)) q)) in
-      rw split (walked-then (replicate i q) (replicate 1 q ++ replicate (n - (i + 1)) q) t refl (walked-stop (q ∷ []) (replicate (n - (i + 1)) q) u f))
 
 -- ---- a word that has no fault at its place
 
@@ -138,7 +120,22 @@ isNone (r ∷ rs) = false
 unfoldable leafRow : ℕ → ℕ → ℕ → Row → Bool
 leafRow x p k r = cond (isLeaf (r .category)) (isNone (r .below x p)) true
 
+-- the kinds whose children, if any, are expressions: bit k for the kind k
+unfoldable pub plain : ℕ
+plain = 1151517851620
+
+unfoldable plainRow : ℕ → ℕ → ℕ → Row → Bool
+plainRow x p k r = cond (onlyExpressions (r .below x p)) true (eqb (bitOf plain k) 0)
+
+or-zero : (y : Bool) (n : ℕ) → T (cond y true (eqb n 0)) → (n ≡ 0 → ⊥) → T y
+or-zero true n t m = tt
+or-zero false n t m = absurd (m (eqb→eq n 0 t))
+
 module _ (k x p : ℕ) where
+  plain-row : (bitOf plain k ≡ 0 → ⊥) → T (onlyExpressions (rowOf k .below x p))
+  unfolding each table row noRow leaf expressions oneExpression statements plainRow onlyExpressions plain bitOf
+  plain-row b = or-zero (onlyExpressions (rowOf k .below x p)) (bitOf plain k) (each-row (plainRow x p) tt k tt) b
+
   statement-plain : rowOf k .category ≡ 3 → (k ≡ 3 → ⊥) → (k ≡ 4 → ⊥) → T (onlyExpressions (rowOf k .below x p))
   unfolding each table row noRow leaf expressions oneExpression statements plainStatement onlyExpressions
   statement-plain e a b = one-off _ k 4 b (one-off _ k 3 a (implied (eqb (rowOf k .category) 3) _ (each-row (plainStatement x p) tt k tt) (eq-eqb _ _ e)))
@@ -285,3 +282,56 @@ module _ {s : ℕ} {ws : List ℕ} {at p : ℕ} (c x left : ℕ) (h : Here s ws 
 
   pub expression-children : (n : ℕ) → n ≡ children (kindOf (getD ws at 0)) (payloadOf (getD ws at 0)) → c ≡ Expression → (kindOf (getD ws at 0) ≡ 20 → ⊥) → (kindOf (getD ws at 0) ≡ 21 → ⊥) → Below (replicate n (place expression d))
   expression-children n en e a b = plain-children n en (expression-plain (kindOf (getD ws at 0)) x p (here-category c x (maxDepth + 1 - left) h ∙ e) a b)
+
+  -- a record of a kind in the set
+  pub plain-below : (n : ℕ) → n ≡ children (kindOf (getD ws at 0)) (payloadOf (getD ws at 0)) → (bitOf plain (kindOf (getD ws at 0)) ≡ 0 → ⊥) → Below (replicate n (place expression d))
+  plain-below n en b = plain-children n en (plain-row (kindOf (getD ws at 0)) x p b)
+
+-- ---- the loop of `records`: k records for the place of c, x and `left` are left, from p on
+
+first-split : (q : Place) (k : ℕ) → (k ≡ 0 → ⊥) → replicate k q ≡ (q ∷ []) ++ replicate (k - 1) q
+first-split q k n = let e : k ≡ 1 + (k - 1) = omega arith in ap (λ (m : ℕ). replicate m q) e ∙ sym (replicate-append-replicate 1 (k - 1) q)
+
+module _ {s : ℕ} {ws : List ℕ} {at : ℕ} {qs : List Place} {p : ℕ} (c x left k : ℕ) (h : Rest s ws at qs p (replicate k (place (slot c x) (maxDepth + 1 - left)))) where
+  abbrev q : Place
+  q = place (slot c x) (maxDepth + 1 - left)
+
+  -- the place of the children
+  abbrev e : Place
+  e = place expression (maxDepth + 1 - (left - 1))
+
+  pub loop-done : k ≡ 0 → Walked s ws at qs (record { fault = 0; next = p })
+  loop-done z = h .whole (walked-as (ap (λ (m : ℕ). replicate m q) z) walked-none)
+
+  module _ (some : k ≡ 0 → ⊥) where
+    -- the first of them was walked, with a fault or without
+    pub loop-stop : {a : Step} → Walked s ws p (q ∷ []) a → (a .fault ≡ 0 → ⊥) → Walked s ws at qs a
+    loop-stop t f = h .whole (walked-as (first-split q k some) (walked-stop (q ∷ []) (replicate (k - 1) q) t f))
+
+    pub loop-next : {a : Step} → Walked s ws p (q ∷ []) a → a .fault ≡ 0 → Rest s ws at qs (a .next) (replicate (k - 1) q)
+    loop-next t z = record { whole = λ u. h .whole (walked-as (first-split q k some) (walked-then (q ∷ []) (replicate (k - 1) q) t z u)) }
+
+    -- its word has no fault, and its m children are expressions
+    module _ (f m : ℕ) (le : left ≤ maxDepth) (i : p < length ws) (ef : f ≡ faultAt s q (getD ws p 0)) (z : f ≡ 0)
+        (b : bitOf plain (kindOf (getD ws p 0)) ≡ 0 → ⊥) (em : m ≡ children (kindOf (getD ws p 0)) (payloadOf (getD ws p 0))) where
+      here : Here s ws p q
+      here = here-as c x (maxDepth + 1 - left) c f refl i ef z
+
+      above : {r : Step} → Walked s ws (p + 1) (replicate m e) r → Walked s ws p (q ∷ []) r
+      above t = walked-one q here (walked-as (plain-below c x left here le refl m em b) t)
+
+      pub loop-depth : maxDepth + 1 - left ≤ maxDepth
+      loop-depth = here-depth c x (maxDepth + 1 - left) here
+
+      pub loop-leaf : m ≡ 0 → Rest s ws at qs (p + 1) (replicate (k - 1) q)
+      loop-leaf o = loop-next (above (walked-as (ap (λ (n : ℕ). replicate n e) o) walked-none)) refl
+
+      pub loop-stop-below : {a : Step} → Walked s ws (p + 1) (replicate m e) a → (a .fault ≡ 0 → ⊥) → Walked s ws at qs a
+      loop-stop-below t n = loop-stop (above t) n
+
+      pub loop-next-below : {a : Step} → Walked s ws (p + 1) (replicate m e) a → a .fault ≡ 0 → Rest s ws at qs (a .next) (replicate (k - 1) q)
+      loop-next-below t o = loop-next (above t) o
+
+      -- it is the last one, and its children are left
+      pub loop-down : k - 1 ≡ 0 → Rest s ws at qs (p + 1) (replicate m e)
+      loop-down o = record { whole = λ u. h .whole (walked-as (first-split q k some ∙ ap (λ (n : ℕ). (q ∷ []) ++ replicate n q) o) (above u)) }

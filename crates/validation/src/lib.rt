@@ -28,23 +28,82 @@ pub struct Step {
     pub next: usize,
 }
 
+// The kinds whose children, if any, are expressions only: bit k for the kind k.
+const PLAIN_KINDS: u64 = 1 << 2
+    | 1 << 5
+    | 1 << 6
+    | 1 << 7
+    | 1 << 8
+    | 1 << 9
+    | 1 << 10
+    | 1 << 11
+    | 1 << 12
+    | 1 << 13
+    | 1 << 14
+    | 1 << 15
+    | 1 << 16
+    | 1 << 17
+    | 1 << 18
+    | 1 << 19
+    | 1 << 22
+    | 1 << 23
+    | 1 << 24
+    | 1 << 25
+    | 1 << 27
+    | 1 << 28
+    | 1 << 34
+    | 1 << 35
+    | 1 << 40;
+
 // The walkers. `s` is the number of symbols, `left` the number of levels that are left, the walked records' own counted: it falls from a record to
 // its children. Siblings are walked by a loop, so that the calls nest no deeper than the records.
 
-// n records of one category.
+// n records of one category. Below the last of them the loop goes on with its children, where they are expressions only.
 fn records(ws: &[u32], at: usize, s: u32, category: u8, context: u32, left: u32, n: u64) -> Step
     requires { ⌜ left ≤ maxDepth ⌝ }
     ensures { λ r. ⌜ Walked s (now (ws .entry)) at (replicate n (place (slot category context) (maxDepth + 1 - left))) r ⌝ }
 {
     let mut p = at;
-    let mut i = 0;
-    while i < n {
-        let r = one_record(ws, p, s, category, context, left);
-        if r.fault != 0 {
-            return r;
+    let mut c = category;
+    let mut x = context;
+    let mut l = left;
+    let mut k = n;
+    while k != 0 {
+        if ws.len() <= p {
+            return Step { fault: 2, next: p };
         }
-        p = r.next;
-        i += 1;
+        let w = ws[p];
+        if words::kind_bit(PLAIN_KINDS, w) == 0 {
+            let a = one_record(ws, p, s, c, x, l);
+            if a.fault != 0 {
+                return a;
+            }
+            p = a.next;
+            k -= 1;
+            continue;
+        }
+        let f = grammar::fault(s, c, x, l, w);
+        if f != 0 {
+            return Step { fault: f, next: p };
+        }
+        p += 1;
+        k -= 1;
+        let m = words::child_count(w) as u64;
+        if m == 0 {
+            continue;
+        }
+        if k != 0 {
+            let b = records(ws, p, s, grammar::EXPRESSION, grammar::PLAIN, l - 1, m);
+            if b.fault != 0 {
+                return b;
+            }
+            p = b.next;
+            continue;
+        }
+        c = grammar::EXPRESSION;
+        x = grammar::PLAIN;
+        l -= 1;
+        k = m;
     }
     Step { fault: 0, next: p }
 }

@@ -1,12 +1,14 @@
--- How `child_count` finds the number of children: a shape for each kind, and what a shape makes of a payload. Assumes nothing.
-use mathlib.Core.Path.{_≡_, refl, ap, sym, _∙_}
+-- How `child_count` finds the number of children: a shape for each kind, what a shape makes of a payload, and sets of kinds in place of the
+-- shapes. Assumes nothing.
+use mathlib.Core.Path.{_≡_, refl, ap, sym, subst, _∙_}
 use mathlib.Core.Bool.{Bool, true, false, cond}
 use mathlib.Core.List.{List, [], _∷_}
-use Prim.Native.Nat.{ℕ, _+_, _*_, _/_, _%_, _<_, _≤_}
+use Prim.Native.Nat.{ℕ, _+_, _*_, _/_, _%_, _^_, _<_, _≤_}
 use native.Mathlib.Nat.{zero-add}
 use native.Mathlib.Omega.{arith}
-use lib.Dec.{eqb}
-use Rattle.words.specs.Table.{lookup, AllLe, lookup-le}
+use lib.Dec.{T, eqb, eqb→eq}
+use borrow.Author.Tests.{eq-eqb, ne-eqb}
+use Rattle.words.specs.Table.{lookup, both, every, below-all}
 use Rattle.words.specs.Word.{childTable, children, bit0, bit1, bit2}
 
 -- what the payload adds: 1 as it stands, 2 its low byte, 3 bits 0 and 2, 4 bit 2, 5 bit 1
@@ -142,6 +144,71 @@ pub shape-children : (k p : ℕ) → childrenBy p (shapeOf k) ≡ children k p
 unfolding shapeOf children
 shape-children k p = lookup-same (childrenBy p) k shapes (childTable p) (unfold childrenBy counted lookup in refl) (entries p)
 
-pub counted-le : (m p : ℕ) → counted m p ≤ p + 2
-unfolding counted AllLe bit0 bit1 bit2
-counted-le m p = lookup-le m 0 (p + 2) _ (omega arith) (omega arith)
+-- ---- sets of kinds: bit k is the kind k
+
+unfoldable pub bitOf : ℕ → ℕ → ℕ
+bitOf s k = s / 2 ^ k % 2
+
+-- one child that is always there; the payload counts the children, or the others; counted in other ways
+unfoldable pub one : ℕ
+one = 137466085430
+
+unfoldable pub many : ℕ
+many = 765313875978
+
+unfoldable pub apart : ℕ
+apart = 7618953216
+
+-- the shape of a kind that isn't apart, and of those apart but four
+unfoldable shapeBits : ℕ → Bool
+shapeBits k = cond (eqb (bitOf apart k) 0) (eqb (shapeOf k) (16 * bitOf one k + bitOf many k)) true
+
+unfoldable shapeApart : ℕ → Bool
+shapeApart k = cond (eqb (bitOf apart k) 1) (cond (eqb k 25) true (cond (eqb k 26) true (cond (eqb k 30) true (cond (eqb k 31) true (eqb (shapeOf k) 32))))) true
+
+yes : (b c : Bool) → b ≡ true → T (cond b c true) → T c
+yes b c e t = subst (λ (x : Bool). T (cond x c true)) e t
+
+no : (b c : Bool) → b ≡ false → T (cond b true c) → T c
+no b c e t = subst (λ (x : Bool). T (cond x true c)) e t
+
+pub bit-lt : (s k : ℕ) → bitOf s k < 2
+unfolding bitOf
+bit-lt s k = omega arith
+
+pub bit-one : (s k : ℕ) → (bitOf s k ≡ 0 → ⊥) → bitOf s k ≡ 1
+bit-one s k n = omega (arith, bit-lt s k)
+
+by-one : (a p : ℕ) → childrenBy p (16 * a + 1) ≡ a + p
+unfolding childrenBy counted lookup
+by-one a p =
+    let d : (16 * a + 1) / 16 ≡ a = omega arith in
+    let m : (16 * a + 1) % 16 ≡ 1 = omega arith in
+    rw (d, m)
+
+by-none : (a p : ℕ) → childrenBy p (16 * a + 0) ≡ a
+unfolding childrenBy counted lookup
+by-none a p =
+    let d : (16 * a + 0) / 16 ≡ a = omega arith in
+    let m : (16 * a + 0) % 16 ≡ 0 = omega arith in
+    rw (d, m) (omega arith)
+
+module _ (k p : ℕ) (h : k < 64) where
+  pub apart-children : bitOf apart k ≡ 1 → (k ≡ 25 → ⊥) → (k ≡ 26 → ⊥) → (k ≡ 30 → ⊥) → (k ≡ 31 → ⊥) → childrenBy p (shapeOf k) ≡ 2
+  unfolding childrenBy counted lookup shapeApart every both bitOf apart shapeOf shapes
+  apart-children e a b c d =
+      let t = no _ _ (ne-eqb k 31 d) (no _ _ (ne-eqb k 30 c) (no _ _ (ne-eqb k 26 b) (no _ _ (ne-eqb k 25 a) (yes _ _ (eq-eqb (bitOf apart k) 1 e) (below-all shapeApart 64 tt k h))))) in
+      ap (childrenBy p) (eqb→eq (shapeOf k) 32 t)
+
+  module _ (e : bitOf apart k ≡ 0) where
+    kept : shapeOf k ≡ 16 * bitOf one k + bitOf many k
+    unfolding shapeBits every both bitOf apart one many shapeOf shapes lookup
+    kept = eqb→eq (shapeOf k) (16 * bitOf one k + bitOf many k) (yes _ _ (eq-eqb (bitOf apart k) 0 e) (below-all shapeBits 64 tt k h))
+
+    pub many-children : (bitOf many k ≡ 0 → ⊥) → bitOf one k + p ≡ children k p
+    many-children n =
+        let m : bitOf many k ≡ 1 = bit-one many k n in
+        sym (sym (shape-children k p) ∙ ap (childrenBy p) (kept ∙ ap (λ (b : ℕ). 16 * bitOf one k + b) m) ∙ by-one (bitOf one k) p)
+
+    pub few-children : bitOf many k ≡ 0 → bitOf one k ≡ children k p
+    few-children n = sym (sym (shape-children k p) ∙ ap (childrenBy p) (kept ∙ ap (λ (b : ℕ). 16 * bitOf one k + b) n) ∙ by-none (bitOf one k) p)

@@ -7,7 +7,7 @@ use Prim.Native.Nat.{ℕ, zero, suc, _+_, _<_, _≤_}
 use native.Mathlib.Nat.{add-zero, zero-add, add-suc, suc-add, le-of-suc-le-suc, not-suc-le-zero}
 use lib.Dec.{T, eqb}
 use borrow.Author.Tests.{eqb-true}
-use lib.ListN.{length, getD}
+use lib.ListN.{length, getD, replicate, length-replicate}
 
 -- the entry of k in a table, or d
 unfoldable pub lookup : {A : Type 0} → ℕ → List (ℕ × A) → A → A
@@ -72,3 +72,7 @@ from f (x ∷ xs) i t (suc k) h =
 
 pub entry-at : (f : ℕ → ℕ → Bool) (xs : List ℕ) → T (every f 0 xs) → (k : ℕ) → k < length xs → T (f k (getD xs k 0))
 entry-at f xs t k h = subst (λ (m : ℕ). T (f m (getD xs k 0))) (zero-add k) (from f xs 0 t k h)
+
+-- a test of every number below n
+pub below-all : (f : ℕ → Bool) (n : ℕ) → T (every (λ k x. f k) 0 (replicate n 0)) → (k : ℕ) → k < n → T (f k)
+below-all f n t k h = entry-at (λ k x. f k) (replicate n 0) t k (rw length-replicate h)

@@ -2,12 +2,13 @@
 use mathlib.Core.Path.{_≡_, refl, sym, ap, _∙_}
 use Prim.Native.Nat.{ℕ, _+_, _*_, _-_, _<_, _≤_}
 use native.Mathlib.Omega.{arith}
-use lib.ListN.{replicate}
+use lib.ListN.{replicate, getD}
 use borrow.Author.Needs.{needs}
 use borrow.Fn.Kinds.{In}
 use borrow.Fn.PlainCycle.{Measures, is, falls, and}
-use Rattle.validation.specs.Walks.{walked-end, walked-fault, walked-none, walked-stop, walked-then, walked-last, walked-as, walked-next, walked-broken, here-depth, here-as, one-walked, block-children, class-statement-children, class-expression-children, function-children, class-children, method-children, static-block-children, decorators-children, body-children, parameters-children, parameter-children, code-children, module-children, leaf-children, statement-children, expression-children, field-children}
-use Rattle.validation.specs.Walked.{Walked, Here}
+use Rattle.validation.specs.Walks.{walked-end, walked-fault, walked-none, walked-stop, walked-then, walked-last, walked-as, here-depth, here-as, plain, loop-done, loop-stop, loop-next, loop-depth, loop-leaf, loop-stop-below, loop-next-below, loop-down, one-walked, block-children, class-statement-children, class-expression-children, function-children, class-children, method-children, static-block-children, decorators-children, body-children, parameters-children, parameter-children, code-children, module-children, leaf-children, statement-children, expression-children, field-children}
+use Rattle.validation.specs.Walked.{Walked, Here, Rest}
+use Rattle.words.specs.Word.{kindOf, payloadOf, children-le, payload-lt}
 use Rattle.grammar.specs.Scan.{place}
 use Rattle.grammar.specs.Grammar.{slot}
 use Rattle.grammar.specs.Limits.{maxDepth}
@@ -39,6 +40,7 @@ use Rattle.validation.proofs.statement.Kinds as statement-kinds
 use Rattle.validation.proofs.+class+element+expression+method+one_record+other+records+statement.Lts-statement as statement-lts
 use Rattle.grammar.proofs.fault.Reads as fault-reads
 use Rattle.words.proofs.child_count.Reads as child-count-reads
+use Rattle.words.proofs.kind_bit.Reads as kind-bit-reads
 use Rattle.words.proofs.kind_of.Reads as kind-of-reads
 use Rattle.words.proofs.payload_of.Reads as payload-of-reads
 
@@ -138,7 +140,7 @@ abbrev other-uses : ℕ → other-lts.Claims
 other-uses t = (payload-of-reads.Asked, payload-of-reads.Learnt, records-below t, records.Post)
 
 abbrev records-uses : ℕ → records-lts.Claims
-records-uses t = (one-record-below t, one-record.Post)
+records-uses t = (kind-bit-reads.Asked, kind-bit-reads.Learnt, one-record-below t, one-record.Post, fault-reads.Asked, fault-reads.Learnt, child-count-reads.Asked, child-count-reads.Learnt, records-below t, records.Post)
 
 abbrev statement-uses : ℕ → statement-lts.Claims
 statement-uses t = (kind-of-reads.Asked, kind-of-reads.Learnt, payload-of-reads.Asked, payload-of-reads.Learnt, records-below t, records.Post, child-count-reads.Asked, child-count-reads.Learnt)
@@ -665,33 +667,121 @@ other-returns-9 : (t : ℕ) → other-lts.Need-returns-9 (other-uses t) (other-a
 other-returns-9 t c = walked-as (leaf-children (c .before .before .before .before .before .before .before .before .before .args .category) (c .before .before .before .before .before .before .before .before .before .args .context) (c .before .before .before .before .before .before .before .before .before .args .left) (c .before .before .before .before .before .before .before .before .before .pre .1 .0) (c .before .before .before .before .before .before .before .before .before .pre .1 .2) (c .before .before .before .before .before .before .payload-of .ensures) (c .before .before .before .before .before .before .before .before .before .pre .1 .1) (c .before .before .before .before .before .if1 .left) (c .before .before .before .before .if2 .left) (c .before .before .before .if3 .left) (c .before .before .if4 .left) (c .before .if6 .left) (c .if7 .left)) walked-none
 
 abbrev records-Inv-loop : records-lts.InvT-loop
-records-Inv-loop ws at s category context left n p₀ i₀ p i = (i ≤ n) × Walked s ws at (replicate i (place (slot category context) (maxDepth + 1 - left))) (record { fault = 0; next = p })
+records-Inv-loop ws at s category context left n p₀ c₀ x₀ l₀ k₀ p c x l k = (l ≤ left) × Rest s ws at (replicate n (place (slot category context) (maxDepth + 1 - left))) p (replicate k (place (slot c x) (maxDepth + 1 - l)))
 
 abbrev records-μ-loop : records-lts.MeasureT-loop
-records-μ-loop ws at s category context left n p₀ i₀ p i = n - i
+records-μ-loop ws at s category context left n p₀ c₀ x₀ l₀ k₀ p c x l k = l * 134217728 + k
 
 records-loop-holds : (t : ℕ) → records-lts.Need-loop-holds (records-uses t) (records-at t) records.Post records-Inv-loop records-μ-loop
-records-loop-holds t c = (omega arith, walked-none)
-
-records-one-record-requires : (t : ℕ) → records-lts.Need-one-record-requires (records-uses t) (records-at t) records.Post records-Inv-loop records-μ-loop
-records-one-record-requires t c κs = (omega (arith, c .before .before .before .pre .0), c .before .before .before .pre .1)
+records-loop-holds t c = (omega arith, record { whole = λ u. u })
 
 records-returns : (t : ℕ) → records-lts.Need-returns (records-uses t) (records-at t) records.Post records-Inv-loop records-μ-loop
-records-returns t c = walked-broken (place (slot (c .before .before .before .before .before .before .args .category) (c .before .before .before .before .before .before .args .context)) (maxDepth + 1 - c .before .before .before .before .before .before .args .left)) (c .before .before .before .before .loop .i) (c .before .before .before .before .before .before .args .n) (c .before .before .before .before .loop .p) (c .before .before .before .loop-test .taken) (c .before .before .before .before .loop .inv .1) (c .before .before .one-record .ensures) (c .if1 .taken)
+records-returns t c = loop-stop (c .before .before .loop .c) (c .before .before .loop .x) (c .before .before .loop .l) (c .before .before .loop .k) (c .before .before .loop .inv .1) (c .before .loop-test .taken) (walked-end _ (c .if1 .taken)) (λ z. omega arith)
 
-records-add-i : (t : ℕ) → records-lts.Need-add-i (records-uses t) (records-at t) records.Post records-Inv-loop records-μ-loop
-records-add-i t c = omega (arith, c .before .before .before .loop-test .taken)
+records-mul-w : (t : ℕ) → records-lts.Need-mul-w (records-uses t) (records-at t) records.Post records-Inv-loop records-μ-loop
+records-mul-w t c = search needs
 
-records-loop-less : (t : ℕ) → records-lts.Need-loop-less (records-uses t) (records-at t) records.Post records-Inv-loop records-μ-loop
-records-loop-less t c = omega (arith, c .before .before .before .loop-test .taken)
+records-shared-slice-read-w : (t : ℕ) → records-lts.Need-shared-slice-read-w (records-uses t) (records-at t) records.Post records-Inv-loop records-μ-loop
+records-shared-slice-read-w t c = search needs
 
-records-loop-again : (t : ℕ) → records-lts.Need-loop-again (records-uses t) (records-at t) records.Post records-Inv-loop records-μ-loop
-records-loop-again t c = (omega (arith, c .before .before .before .loop-test .taken), walked-next (place (slot (c .before .before .before .before .before .before .args .category) (c .before .before .before .before .before .before .args .context)) (maxDepth + 1 - c .before .before .before .before .before .before .args .left)) (c .before .before .before .before .loop .i) (c .before .before .before .before .loop .p) (c .before .before .before .before .loop .inv .1) (c .before .before .one-record .ensures) (c .if1 .left))
+records-kind-bit-requires : (t : ℕ) → records-lts.Need-kind-bit-requires (records-uses t) (records-at t) records.Post records-Inv-loop records-μ-loop
+records-kind-bit-requires t c κs = search needs
+
+records-one-record-requires : (t : ℕ) → records-lts.Need-one-record-requires (records-uses t) (records-at t) records.Post records-Inv-loop records-μ-loop
+records-one-record-requires t c κs = (omega (arith, c .before .before .before .before .before .before .before .pre .0, c .before .before .before .before .before .loop .inv .0), omega (arith, c .before .before .before .before .before .loop .inv .0, c .before .before .before .before .before .before .before .pre .1))
 
 records-returns-2 : (t : ℕ) → records-lts.Need-returns-2 (records-uses t) (records-at t) records.Post records-Inv-loop records-μ-loop
-records-returns-2 t c =
-    let e : c .before .loop .i ≡ c .before .before .before .args .n = omega (arith, c .loop-test .left, c .before .loop .inv .0) in
-    walked-as (ap (λ (m : ℕ). replicate m (place (slot (c .before .before .before .args .category) (c .before .before .before .args .context)) (maxDepth + 1 - c .before .before .before .args .left))) (sym e)) (c .before .loop .inv .1)
+records-returns-2 t c = loop-stop (c .before .before .before .before .before .before .before .before .loop .c) (c .before .before .before .before .before .before .before .before .loop .x) (c .before .before .before .before .before .before .before .before .loop .l) (c .before .before .before .before .before .before .before .before .loop .k) (c .before .before .before .before .before .before .before .before .loop .inv .1) (c .before .before .before .before .before .before .before .loop-test .taken) (c .before .before .one-record .ensures) (c .if3 .taken)
+
+records-sub-k : (t : ℕ) → records-lts.Need-sub-k (records-uses t) (records-at t) records.Post records-Inv-loop records-μ-loop
+records-sub-k t c = omega (arith, c .before .before .before .before .before .before .before .loop-test .taken)
+
+records-loop-less : (t : ℕ) → records-lts.Need-loop-less (records-uses t) (records-at t) records.Post records-Inv-loop records-μ-loop
+records-loop-less t c = omega (arith, c .before .before .before .before .before .before .before .loop-test .taken)
+
+records-loop-again : (t : ℕ) → records-lts.Need-loop-again (records-uses t) (records-at t) records.Post records-Inv-loop records-μ-loop
+records-loop-again t c = (c .before .before .before .before .before .before .before .before .loop .inv .0, loop-next (c .before .before .before .before .before .before .before .before .loop .c) (c .before .before .before .before .before .before .before .before .loop .x) (c .before .before .before .before .before .before .before .before .loop .l) (c .before .before .before .before .before .before .before .before .loop .k) (c .before .before .before .before .before .before .before .before .loop .inv .1) (c .before .before .before .before .before .before .before .loop-test .taken) (c .before .before .one-record .ensures) (c .if3 .left))
+
+records-fault-requires : (t : ℕ) → records-lts.Need-fault-requires (records-uses t) (records-at t) records.Post records-Inv-loop records-μ-loop
+records-fault-requires t c κs = search needs
+
+records-returns-3 : (t : ℕ) → records-lts.Need-returns-3 (records-uses t) (records-at t) records.Post records-Inv-loop records-μ-loop
+records-returns-3 t c = loop-stop (c .before .before .before .before .before .before .before .loop .c) (c .before .before .before .before .before .before .before .loop .x) (c .before .before .before .before .before .before .before .loop .l) (c .before .before .before .before .before .before .before .loop .k) (c .before .before .before .before .before .before .before .loop .inv .1) (c .before .before .before .before .before .before .loop-test .taken) (walked-fault _ (c .before .fault .result) (c .before .before .before .before .before .if1 .left) (c .before .fault .ensures) (c .if4 .taken)) (c .if4 .taken)
+
+records-add-p : (t : ℕ) → records-lts.Need-add-p (records-uses t) (records-at t) records.Post records-Inv-loop records-μ-loop
+records-add-p t c = omega (arith, c .before .before .before .before .before .if1 .left)
+
+records-sub-k-2 : (t : ℕ) → records-lts.Need-sub-k-2 (records-uses t) (records-at t) records.Post records-Inv-loop records-μ-loop
+records-sub-k-2 t c = omega (arith, c .before .before .before .before .before .before .loop-test .taken)
+
+records-child-count-requires : (t : ℕ) → records-lts.Need-child-count-requires (records-uses t) (records-at t) records.Post records-Inv-loop records-μ-loop
+records-child-count-requires t c κs = search needs
+
+records-cast-m : (t : ℕ) → records-lts.Need-cast-m (records-uses t) (records-at t) records.Post records-Inv-loop records-μ-loop
+records-cast-m t c = search needs
+
+records-loop-less-2 : (t : ℕ) → records-lts.Need-loop-less-2 (records-uses t) (records-at t) records.Post records-Inv-loop records-μ-loop
+records-loop-less-2 t c = omega (arith, c .before .before .before .before .before .before .before .before .loop-test .taken)
+
+records-loop-again-2 : (t : ℕ) → records-lts.Need-loop-again-2 (records-uses t) (records-at t) records.Post records-Inv-loop records-μ-loop
+unfolding plain
+records-loop-again-2 t c =
+    let le : c .before .before .before .before .before .before .before .before .before .loop .l ≤ maxDepth = omega (arith, c .before .before .before .before .before .before .before .before .before .loop .inv .0, c .before .before .before .before .before .before .before .before .before .before .before .pre .1) in
+    (c .before .before .before .before .before .before .before .before .before .loop .inv .0, loop-leaf (c .before .before .before .before .before .before .before .before .before .loop .c) (c .before .before .before .before .before .before .before .before .before .loop .x) (c .before .before .before .before .before .before .before .before .before .loop .l) (c .before .before .before .before .before .before .before .before .before .loop .k) (c .before .before .before .before .before .before .before .before .before .loop .inv .1) (c .before .before .before .before .before .before .before .before .loop-test .taken) (c .before .before .before .fault .result) (c .before .child-count .result) le (c .before .before .before .before .before .before .before .if1 .left) (c .before .before .before .fault .ensures) (c .before .before .if4 .left) (λ z. c .before .before .before .before .if2 .left (c .before .before .before .before .before .kind-bit .ensures .0 ∙ z)) (c .before .child-count .ensures) (c .if5 .taken))
+
+records-sub-records : (t : ℕ) → records-lts.Need-sub-records (records-uses t) (records-at t) records.Post records-Inv-loop records-μ-loop
+unfolding plain
+records-sub-records t c =
+    let le : c .before .before .before .before .before .before .before .before .before .before .loop .l ≤ maxDepth = omega (arith, c .before .before .before .before .before .before .before .before .before .before .loop .inv .0, c .before .before .before .before .before .before .before .before .before .before .before .before .pre .1) in
+    let d = loop-depth (c .before .before .before .before .before .before .before .before .before .before .loop .c) (c .before .before .before .before .before .before .before .before .before .before .loop .x) (c .before .before .before .before .before .before .before .before .before .before .loop .l) (c .before .before .before .before .before .before .before .before .before .before .loop .k) (c .before .before .before .before .before .before .before .before .before .before .loop .inv .1) (c .before .before .before .before .before .before .before .before .before .loop-test .taken) (c .before .before .before .before .fault .result) (c .before .before .child-count .result) le (c .before .before .before .before .before .before .before .before .if1 .left) (c .before .before .before .before .fault .ensures) (c .before .before .before .if4 .left) (λ z. c .before .before .before .before .before .if2 .left (c .before .before .before .before .before .before .kind-bit .ensures .0 ∙ z)) (c .before .before .child-count .ensures) in
+    omega arith
+
+records-records-requires : (t : ℕ) → records-lts.Need-records-requires (records-uses t) (records-at t) records.Post records-Inv-loop records-μ-loop
+unfolding plain
+records-records-requires t c κs =
+    let le : c .before .before .before .before .before .before .before .before .before .before .loop .l ≤ maxDepth = omega (arith, c .before .before .before .before .before .before .before .before .before .before .loop .inv .0, c .before .before .before .before .before .before .before .before .before .before .before .before .pre .1) in
+    let d = loop-depth (c .before .before .before .before .before .before .before .before .before .before .loop .c) (c .before .before .before .before .before .before .before .before .before .before .loop .x) (c .before .before .before .before .before .before .before .before .before .before .loop .l) (c .before .before .before .before .before .before .before .before .before .before .loop .k) (c .before .before .before .before .before .before .before .before .before .before .loop .inv .1) (c .before .before .before .before .before .before .before .before .before .loop-test .taken) (c .before .before .before .before .fault .result) (c .before .before .child-count .result) le (c .before .before .before .before .before .before .before .before .if1 .left) (c .before .before .before .before .fault .ensures) (c .before .before .before .if4 .left) (λ z. c .before .before .before .before .before .if2 .left (c .before .before .before .before .before .before .kind-bit .ensures .0 ∙ z)) (c .before .before .child-count .ensures) in
+    (omega (arith, c .before .before .before .before .before .before .before .before .before .before .before .before .pre .0, c .before .before .before .before .before .before .before .before .before .before .loop .inv .0), omega (arith, c .before .before .before .before .before .before .before .before .before .before .before .before .pre .1, c .before .before .before .before .before .before .before .before .before .before .loop .inv .0))
+
+records-returns-4 : (t : ℕ) → records-lts.Need-returns-4 (records-uses t) (records-at t) records.Post records-Inv-loop records-μ-loop
+unfolding plain
+records-returns-4 t c =
+    let le : c .before .before .before .before .before .before .before .before .before .before .before .before .before .loop .l ≤ maxDepth = omega (arith, c .before .before .before .before .before .before .before .before .before .before .before .before .before .loop .inv .0, c .before .before .before .before .before .before .before .before .before .before .before .before .before .before .before .pre .1) in
+    loop-stop-below (c .before .before .before .before .before .before .before .before .before .before .before .before .before .loop .c) (c .before .before .before .before .before .before .before .before .before .before .before .before .before .loop .x) (c .before .before .before .before .before .before .before .before .before .before .before .before .before .loop .l) (c .before .before .before .before .before .before .before .before .before .before .before .before .before .loop .k) (c .before .before .before .before .before .before .before .before .before .before .before .before .before .loop .inv .1) (c .before .before .before .before .before .before .before .before .before .before .before .before .loop-test .taken) (c .before .before .before .before .before .before .before .fault .result) (c .before .before .before .before .before .child-count .result) le (c .before .before .before .before .before .before .before .before .before .before .before .if1 .left) (c .before .before .before .before .before .before .before .fault .ensures) (c .before .before .before .before .before .before .if4 .left) (λ z. c .before .before .before .before .before .before .before .before .if2 .left (c .before .before .before .before .before .before .before .before .before .kind-bit .ensures .0 ∙ z)) (c .before .before .before .before .before .child-count .ensures) (c .before .before .records .ensures) (c .if7 .taken)
+
+records-loop-less-3 : (t : ℕ) → records-lts.Need-loop-less-3 (records-uses t) (records-at t) records.Post records-Inv-loop records-μ-loop
+records-loop-less-3 t c = omega (arith, c .before .before .before .before .before .before .before .before .before .before .before .before .loop-test .taken)
+
+records-loop-again-3 : (t : ℕ) → records-lts.Need-loop-again-3 (records-uses t) (records-at t) records.Post records-Inv-loop records-μ-loop
+unfolding plain
+records-loop-again-3 t c =
+    let le : c .before .before .before .before .before .before .before .before .before .before .before .before .before .loop .l ≤ maxDepth = omega (arith, c .before .before .before .before .before .before .before .before .before .before .before .before .before .loop .inv .0, c .before .before .before .before .before .before .before .before .before .before .before .before .before .before .before .pre .1) in
+    (c .before .before .before .before .before .before .before .before .before .before .before .before .before .loop .inv .0, loop-next-below (c .before .before .before .before .before .before .before .before .before .before .before .before .before .loop .c) (c .before .before .before .before .before .before .before .before .before .before .before .before .before .loop .x) (c .before .before .before .before .before .before .before .before .before .before .before .before .before .loop .l) (c .before .before .before .before .before .before .before .before .before .before .before .before .before .loop .k) (c .before .before .before .before .before .before .before .before .before .before .before .before .before .loop .inv .1) (c .before .before .before .before .before .before .before .before .before .before .before .before .loop-test .taken) (c .before .before .before .before .before .before .before .fault .result) (c .before .before .before .before .before .child-count .result) le (c .before .before .before .before .before .before .before .before .before .before .before .if1 .left) (c .before .before .before .before .before .before .before .fault .ensures) (c .before .before .before .before .before .before .if4 .left) (λ z. c .before .before .before .before .before .before .before .before .if2 .left (c .before .before .before .before .before .before .before .before .before .kind-bit .ensures .0 ∙ z)) (c .before .before .before .before .before .child-count .ensures) (c .before .before .records .ensures) (c .if7 .left))
+
+records-sub-l : (t : ℕ) → records-lts.Need-sub-l (records-uses t) (records-at t) records.Post records-Inv-loop records-μ-loop
+unfolding plain
+records-sub-l t c =
+    let le : c .before .before .before .before .before .before .before .before .before .before .loop .l ≤ maxDepth = omega (arith, c .before .before .before .before .before .before .before .before .before .before .loop .inv .0, c .before .before .before .before .before .before .before .before .before .before .before .before .pre .1) in
+    let d = loop-depth (c .before .before .before .before .before .before .before .before .before .before .loop .c) (c .before .before .before .before .before .before .before .before .before .before .loop .x) (c .before .before .before .before .before .before .before .before .before .before .loop .l) (c .before .before .before .before .before .before .before .before .before .before .loop .k) (c .before .before .before .before .before .before .before .before .before .before .loop .inv .1) (c .before .before .before .before .before .before .before .before .before .loop-test .taken) (c .before .before .before .before .fault .result) (c .before .before .child-count .result) le (c .before .before .before .before .before .before .before .before .if1 .left) (c .before .before .before .before .fault .ensures) (c .before .before .before .if4 .left) (λ z. c .before .before .before .before .before .if2 .left (c .before .before .before .before .before .before .kind-bit .ensures .0 ∙ z)) (c .before .before .child-count .ensures) in
+    omega arith
+
+records-loop-less-4 : (t : ℕ) → records-lts.Need-loop-less-4 (records-uses t) (records-at t) records.Post records-Inv-loop records-μ-loop
+unfolding plain
+records-loop-less-4 t c =
+    let le : c .before .before .before .before .before .before .before .before .before .before .loop .l ≤ maxDepth = omega (arith, c .before .before .before .before .before .before .before .before .before .before .loop .inv .0, c .before .before .before .before .before .before .before .before .before .before .before .before .pre .1) in
+    let d = loop-depth (c .before .before .before .before .before .before .before .before .before .before .loop .c) (c .before .before .before .before .before .before .before .before .before .before .loop .x) (c .before .before .before .before .before .before .before .before .before .before .loop .l) (c .before .before .before .before .before .before .before .before .before .before .loop .k) (c .before .before .before .before .before .before .before .before .before .before .loop .inv .1) (c .before .before .before .before .before .before .before .before .before .loop-test .taken) (c .before .before .before .before .fault .result) (c .before .before .child-count .result) le (c .before .before .before .before .before .before .before .before .if1 .left) (c .before .before .before .before .fault .ensures) (c .before .before .before .if4 .left) (λ z. c .before .before .before .before .before .if2 .left (c .before .before .before .before .before .before .kind-bit .ensures .0 ∙ z)) (c .before .before .child-count .ensures) in
+    let w = getD (c .before .before .before .before .before .before .before .before .before .before .before .before .args .ws .now) (c .before .before .before .before .before .before .before .before .before .before .loop .p) 0 in
+    omega (arith, c .before .before .before .before .before .before .before .before .before .loop-test .taken, c .before .before .child-count .ensures, children-le (kindOf w) (payloadOf w), payload-lt w)
+
+records-loop-again-4 : (t : ℕ) → records-lts.Need-loop-again-4 (records-uses t) (records-at t) records.Post records-Inv-loop records-μ-loop
+unfolding plain
+records-loop-again-4 t c =
+    let le : c .before .before .before .before .before .before .before .before .before .before .loop .l ≤ maxDepth = omega (arith, c .before .before .before .before .before .before .before .before .before .before .loop .inv .0, c .before .before .before .before .before .before .before .before .before .before .before .before .pre .1) in
+    let d = loop-depth (c .before .before .before .before .before .before .before .before .before .before .loop .c) (c .before .before .before .before .before .before .before .before .before .before .loop .x) (c .before .before .before .before .before .before .before .before .before .before .loop .l) (c .before .before .before .before .before .before .before .before .before .before .loop .k) (c .before .before .before .before .before .before .before .before .before .before .loop .inv .1) (c .before .before .before .before .before .before .before .before .before .loop-test .taken) (c .before .before .before .before .fault .result) (c .before .before .child-count .result) le (c .before .before .before .before .before .before .before .before .if1 .left) (c .before .before .before .before .fault .ensures) (c .before .before .before .if4 .left) (λ z. c .before .before .before .before .before .if2 .left (c .before .before .before .before .before .before .kind-bit .ensures .0 ∙ z)) (c .before .before .child-count .ensures) in
+    (omega (arith, c .before .before .before .before .before .before .before .before .before .before .loop .inv .0), loop-down (c .before .before .before .before .before .before .before .before .before .before .loop .c) (c .before .before .before .before .before .before .before .before .before .before .loop .x) (c .before .before .before .before .before .before .before .before .before .before .loop .l) (c .before .before .before .before .before .before .before .before .before .before .loop .k) (c .before .before .before .before .before .before .before .before .before .before .loop .inv .1) (c .before .before .before .before .before .before .before .before .before .loop-test .taken) (c .before .before .before .before .fault .result) (c .before .before .child-count .result) le (c .before .before .before .before .before .before .before .before .if1 .left) (c .before .before .before .before .fault .ensures) (c .before .before .before .if4 .left) (λ z. c .before .before .before .before .before .if2 .left (c .before .before .before .before .before .before .kind-bit .ensures .0 ∙ z)) (c .before .before .child-count .ensures) (c .if6 .left))
+
+records-returns-5 : (t : ℕ) → records-lts.Need-returns-5 (records-uses t) (records-at t) records.Post records-Inv-loop records-μ-loop
+records-returns-5 t c = loop-done (c .before .loop .c) (c .before .loop .x) (c .before .loop .l) (c .before .loop .k) (c .before .loop .inv .1) (c .loop-test .left)
 
 statement-mul-w : (t : ℕ) → statement-lts.Need-mul-w (statement-uses t) (statement-at t) statement′.Post
 statement-mul-w t c = search needs
@@ -928,12 +1018,32 @@ pub +class+element+expression+method+one-record+other+records+statement-spec :
     records-Inv-loop
     records-μ-loop
     (records-loop-holds t)
-    (records-one-record-requires t)
     (records-returns t)
-    (records-add-i t)
+    (records-mul-w t)
+    (records-shared-slice-read-w t)
+    (records-kind-bit-requires t)
+    (records-one-record-requires t)
+    (records-returns-2 t)
+    (records-sub-k t)
     (records-loop-less t)
     (records-loop-again t)
-    (records-returns-2 t))
+    (records-fault-requires t)
+    (records-returns-3 t)
+    (records-add-p t)
+    (records-sub-k-2 t)
+    (records-child-count-requires t)
+    (records-cast-m t)
+    (records-loop-less-2 t)
+    (records-loop-again-2 t)
+    (records-sub-records t)
+    (records-records-requires t)
+    (records-returns-4 t)
+    (records-loop-less-3 t)
+    (records-loop-again-3 t)
+    (records-sub-l t)
+    (records-loop-less-4 t)
+    (records-loop-again-4 t)
+    (records-returns-5 t))
     λ t. statement-lts.spec (
       kind-of-reads.Asked,
       kind-of-reads.Learnt,
