@@ -1,3 +1,4 @@
+-- `dead_total`: the total of the children, by `dead-leads`.
 use Rattle.count_table.specs.Note.{behind-walks, dead-leads}
 use Rattle.counter.specs.Contract.{Totals}
 use mathlib.Core.Bool.{false}
@@ -6,24 +7,16 @@ use Prim.Native.Nat.{ℕ, _+_}
 use borrow.Author.Needs.{needs}
 use Rattle.count_table.proofs.dead_total.Statement.{statement}
 use Rattle.count_table.proofs.dead_total.Tie as tie
-use Rattle.count_table.proofs.dead_total.Reads as reads
-use Rattle.count_table.proofs.dead_total.Lts as lts
-use Rattle.counter.proofs.total_records.Reads as total-records-reads
-use Rattle.inspect.proofs.children_at.Reads as children-at-reads
 
--- src/lib.rt:72:9
 add-total-records : tie.Need-add-total-records
 add-total-records c = search needs
 
--- src/lib.rt:73:9
 children-at-requires : tie.Need-children-at-requires
 children-at-requires c κs = search needs
 
--- src/lib.rt:69:5
 total-records-requires : tie.Need-total-records-requires
 total-records-requires c κs = behind-walks (c .before .before .before .pre .0)
 
--- src/lib.rt:65:1
 returns : tie.Need-returns
 returns c =
     let g = c .before .before .before .before .args in

@@ -1,30 +1,22 @@
+-- `is_live_class`: the two tests one after the other.
 use Rattle.count_table.specs.Note.{not-class, class-live}
 use mathlib.Core.Path.{sym, _∙_}
 use borrow.Author.Needs.{needs}
 use Rattle.count_table.proofs.is_live_class.Statement.{statement}
 use Rattle.count_table.proofs.is_live_class.Tie as tie
-use Rattle.count_table.proofs.is_live_class.Reads as reads
-use Rattle.count_table.proofs.is_live_class.Lts as lts
-use Rattle.inspect.proofs.is_live.Reads as is-live-reads
-use Rattle.inspect.proofs.kind_at.Reads as kind-at-reads
 
--- src/lib.rt:44:8
 kind-at-requires : tie.Need-kind-at-requires
 kind-at-requires c κs = search needs
 
--- src/lib.rt:45:9
 returns : tie.Need-returns
 returns c = sym (not-class (c .before .before .before .args .ws .now) (c .before .before .before .args .at) λ e. c .if1 .taken (c .before .kind-at .ensures ∙ e))
 
--- src/lib.rt:47:26
 add-is-live : tie.Need-add-is-live
 add-is-live c = search needs
 
--- src/lib.rt:47:5
 is-live-requires : tie.Need-is-live-requires
 is-live-requires c κs = search needs
 
--- src/lib.rt:40:1
 returns-2 : tie.Need-returns-2
 returns-2 c = c .is-live .ensures ∙ sym (class-live (c .before .before .before .before .args .ws .now) (c .before .before .before .before .args .at) (sym (c .before .before .kind-at .ensures) ∙ c .before .if1 .left))
 

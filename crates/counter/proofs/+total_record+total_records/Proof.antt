@@ -1,3 +1,4 @@
+-- `total_record` and `total_records`: the measure is the number of words left; the invariant is the answer for the records passed.
 use mathlib.Core.Bool.{Bool, _||_}
 use mathlib.Core.Path.{_≡_, refl, ap, sym, subst, _∙_}
 use Prim.Native.Nat.{_+_, _*_, _-_, _≤_}

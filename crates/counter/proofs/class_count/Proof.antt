@@ -1,3 +1,4 @@
+-- `class_count`: one case of rule 6 for each way out.
 use mathlib.Core.Path.{sym, _∙_}
 use native.Mathlib.Omega.{arith}
 use borrow.Author.Tests.{not-true, not-false, eq-eqb, ne-eqb}
@@ -5,43 +6,31 @@ use Rattle.counter.specs.Totals.{class-none, class-alias, class-inner, c
 use borrow.Author.Needs.{needs}
 use Rattle.counter.proofs.class_count.Statement.{statement}
 use Rattle.counter.proofs.class_count.Tie as tie
-use Rattle.counter.proofs.class_count.Reads as reads
-use Rattle.counter.proofs.class_count.Lts as lts
-use Rattle.inspect.proofs.check_class_has_decorated.Reads as check-class-has-decorated-reads
 
--- src/lib.rt:188:48
 add-check-class-has-decorated : tie.Need-add-check-class-has-decorated
 add-check-class-has-decorated c = search needs
 
--- src/lib.rt:188:9
 check-class-has-decorated-requires : tie.Need-check-class-has-decorated-requires
 check-class-has-decorated-requires c κs = search needs
 
--- src/lib.rt:189:9
 returns : tie.Need-returns
 returns c = (class-none _ _ _ _ (sym (c .before .check-class-has-decorated .ensures) ∙ not-true _ (c .if1 .taken)), omega arith)
 
--- src/lib.rt:192:12
 mul-if3 : tie.Need-mul-if3
 mul-if3 c = search needs
 
--- src/lib.rt:192:12
 shared-slice-read-if3 : tie.Need-shared-slice-read-if3
 shared-slice-read-if3 c = search needs
 
--- src/lib.rt:193:13
 returns-2 : tie.Need-returns-2
 returns-2 c = (class-alias _ (c .before .before .before .before .before .before .before .args .id) _ _ (sym (c .before .before .before .before .check-class-has-decorated .ensures) ∙ not-false _ (c .before .before .before .if1 .left)) (c .before .before .if2 .taken) (eq-eqb _ 1 (c .if3 .taken)), omega arith)
 
--- src/lib.rt:195:9
 returns-3 : tie.Need-returns-3
 returns-3 c = (class-inner _ (c .before .before .before .before .before .before .before .args .id) _ _ (sym (c .before .before .before .before .check-class-has-decorated .ensures) ∙ not-false _ (c .before .before .before .if1 .left)) (c .before .before .if2 .taken) (ne-eqb _ 1 (c .if3 .left)), omega arith)
 
--- src/lib.rt:198:9
 returns-4 : tie.Need-returns-4
 returns-4 c = (class-kept _ (c .before .before .before .before .before .before .args .id) _ (c .before .before .before .before .before .before .args .default) (sym (c .before .before .before .check-class-has-decorated .ensures) ∙ not-false _ (c .before .before .if1 .left)) (c .before .if2 .left) (c .if4 .taken), omega arith)
 
--- src/lib.rt:184:1
 returns-5 : tie.Need-returns-5
 returns-5 c = (class-default _ (c .before .before .before .before .before .before .args .id) _ (c .before .before .before .before .before .before .args .default) (sym (c .before .before .before .check-class-has-decorated .ensures) ∙ not-false _ (c .before .before .if1 .left)) (c .before .if2 .left) (c .if4 .left), omega arith)
 

@@ -1,29 +1,23 @@
+-- `class_symbol`: by the id, then by the default symbol.
 use Rattle.counter.specs.Steps.{taken-id, taken-default, taken-fresh}
 use native.Mathlib.Omega.{arith}
 use mathlib.Core.Path.{_≡_, sym, _∙_}
-use borrow.Author.Needs.{needs}
 use Rattle.counter.proofs.class_symbol.Statement.{statement}
 use Rattle.counter.proofs.class_symbol.Tie as tie
-use Rattle.counter.proofs.class_symbol.Reads as reads
-use Rattle.counter.proofs.class_symbol.Lts as lts
 
--- src/lib.rt:150:9
 returns : tie.Need-returns
 returns c =
     let g = c .before .before .args in
     (taken-id (g .a .id) (g .s .next) (g .s .default) (c .if1 .taken), omega arith)
 
--- src/lib.rt:153:9
 returns-2 : tie.Need-returns-2
 returns-2 c =
     let g = c .before .before .before .before .args in
     (taken-default (g .a .id) (g .s .next) (g .s .default) (c .before .before .if1 .left) (c .if2 .taken), omega arith)
 
--- src/lib.rt:156:15
 add-t4 : tie.Need-add-t4
 add-t4 c = omega (arith, c .before .before .before .before .before .pre)
 
--- src/lib.rt:145:1
 returns-3 : tie.Need-returns-3
 returns-3 c =
     let g = c .before .before .before .before .before .args in

@@ -1,25 +1,19 @@
+-- `count_record`: the total of the record, from one state on.
 use Rattle.counter.specs.Totals.{totals-counts, totals-room, totals-near}
 use Rattle.counter.specs.Contract.{hasDefault}
 use borrow.Author.Needs.{needs}
 use Rattle.counter.proofs.count_record.Statement.{statement}
 use Rattle.counter.proofs.count_record.Tie as tie
-use Rattle.counter.proofs.count_record.Reads as reads
-use Rattle.counter.proofs.count_record.Lts as lts
-use Rattle.counter.proofs.behind.Reads as behind-reads
-use Rattle.counter.proofs.total_record.Reads as total-record-reads
 
--- src/lib.rt:55:12
 total-record-requires : tie.Need-total-record-requires
 total-record-requires c κs = search needs
 
--- src/lib.rt:55:5
 behind-requires : tie.Need-behind-requires
 unfolding hasDefault
 behind-requires c κs =
     let g = c .before .before .before .before .args in
     (totals-room (g .s .default) (c .before .before .before .before .pre .0) (c .total-record .ensures), totals-near (g .s .default) (c .before .before .before .before .pre .0) (c .total-record .ensures))
 
--- src/lib.rt:51:1
 returns : tie.Need-returns
 unfolding hasDefault
 returns c =

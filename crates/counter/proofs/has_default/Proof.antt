@@ -1,16 +1,13 @@
+-- `has_default`: the two ways out are those of `hasDefault`.
 use Rattle.counter.specs.Totals.{has-some, has-none}
 use mathlib.Core.Bool.{_||_}
 use mathlib.Core.Path.{sym, ap}
 use Rattle.counter.proofs.has_default.Statement.{statement}
 use Rattle.counter.proofs.has_default.Tie as tie
-use Rattle.counter.proofs.has_default.Reads as reads
-use Rattle.counter.proofs.has_default.Lts as lts
 
--- src/lib.rt:116:9
 returns : tie.Need-returns
 returns c = sym (ap (_|| (c .before .args .has)) (has-some (c .before .args .d) (c .if1 .taken)))
 
--- src/lib.rt:112:1
 returns-2 : tie.Need-returns-2
 returns-2 c = sym (ap (_|| (c .before .args .has)) (has-none (c .before .args .d) (c .if1 .left)))
 

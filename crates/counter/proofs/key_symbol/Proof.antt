@@ -1,28 +1,22 @@
+-- `key_symbol`: a plain key takes none.
 use Rattle.counter.specs.Steps.{key-plain, key-fresh}
 use native.Mathlib.Omega.{arith}
 use mathlib.Core.Path.{_≡_, sym, _∙_}
 use borrow.Author.Needs.{needs}
 use Rattle.counter.proofs.key_symbol.Statement.{statement}
 use Rattle.counter.proofs.key_symbol.Tie as tie
-use Rattle.counter.proofs.key_symbol.Reads as reads
-use Rattle.counter.proofs.key_symbol.Lts as lts
-use Rattle.inspect.proofs.plain_key.Reads as plain-key-reads
 
--- src/lib.rt:166:8
 plain-key-requires : tie.Need-plain-key-requires
 plain-key-requires c κs = search needs
 
--- src/lib.rt:167:9
 returns : tie.Need-returns
 returns c =
     let g = c .before .before .before .args in
     key-plain (g .s .next) (g .s .default) _ (sym (c .before .plain-key .ensures) ∙ c .if1 .taken)
 
--- src/lib.rt:170:15
 add-t5 : tie.Need-add-t5
 add-t5 c = omega (arith, c .before .before .before .before .pre)
 
--- src/lib.rt:162:1
 returns-2 : tie.Need-returns-2
 returns-2 c =
     let g = c .before .before .before .before .args in

@@ -1,3 +1,4 @@
+-- `total_element`: the note, and what rules 4 and 5 add to it.
 use Rattle.counter.specs.Totals.{total-same, note-at, total-plain, total-named, total-defaulted, total-taken}
 use lib.ListN.{getD}
 use native.Mathlib.Omega.{arith}
@@ -6,29 +7,19 @@ use mathlib.Core.Path.{_≡_, refl, ap, sym, _∙_}
 use borrow.Author.Needs.{needs}
 use Rattle.counter.proofs.total_element.Statement.{statement}
 use Rattle.counter.proofs.total_element.Tie as tie
-use Rattle.counter.proofs.total_element.Reads as reads
-use Rattle.counter.proofs.total_element.Lts as lts
-use Rattle.counter.proofs.from_note.Reads as from-note-reads
-use Rattle.counter.proofs.key_count.Reads as key-count-reads
-use Rattle.inspect.proofs.member_decorated.Reads as member-decorated-reads
 
--- src/lib.rt:147:23
 mul-from-note : tie.Need-mul-from-note
 mul-from-note c = search needs
 
--- src/lib.rt:147:23
 shared-slice-read-from-note : tie.Need-shared-slice-read-from-note
 shared-slice-read-from-note c = search needs
 
--- src/lib.rt:147:9
 from-note-requires : tie.Need-from-note-requires
 from-note-requires c κs = search needs
 
--- src/lib.rt:148:9
 member-decorated-requires : tie.Need-member-decorated-requires
 member-decorated-requires c κs = search needs
 
--- src/lib.rt:149:9
 returns : tie.Need-returns
 returns c =
     let g = c .before .before .before .before .before .before .args in
@@ -36,15 +27,12 @@ returns c =
     let e = c .before .before .from-note .ensures in
     total-same _ (total-plain (p .0) (p .1) (g .a) (g .has) _ (note-at _ _ _ (p .0 .noted) (p .1)) (p .2) (sym (c .before .member-decorated .ensures) ∙ not-true _ (c .if1 .taken))) (e .0) (e .1) (e .2)
 
--- src/lib.rt:151:9
 key-count-requires : tie.Need-key-count-requires
 key-count-requires c κs = search needs
 
--- src/lib.rt:155:20
 add-t13 : tie.Need-add-t13
 add-t13 c = omega (arith, c .before .before .before .before .before .before .from-note .ensures .1, c .before .before .before .key-count .ensures .1)
 
--- src/lib.rt:153:9
 returns-2 : tie.Need-returns-2
 returns-2 c =
     let g = c .before .before .before .before .before .before .before .before .before .before .args in
@@ -53,11 +41,9 @@ returns-2 c =
     let k = c .before .before .before .key-count .ensures .0 in
     total-same _ (total-named (p .0) (p .1) (g .a) (g .has) _ (note-at _ _ _ (p .0 .noted) (p .1)) (p .2) (p .3) (sym (c .before .before .before .before .before .member-decorated .ensures) ∙ not-false _ (c .before .before .before .before .if1 .left)) (c .before .if2 .taken)) (e .0) (omega (arith, e .1, k)) refl
 
--- src/lib.rt:162:20
 add-t14 : tie.Need-add-t14
 add-t14 c = omega (arith, c .before .before .before .before .before .before .before .from-note .ensures .1, c .before .before .before .before .key-count .ensures .1)
 
--- src/lib.rt:160:9
 returns-3 : tie.Need-returns-3
 returns-3 c =
     let g = c .before .before .before .before .before .before .before .before .before .before .before .args in
@@ -66,15 +52,12 @@ returns-3 c =
     let k = c .before .before .before .before .key-count .ensures .0 in
     total-same _ (total-defaulted (p .0) (p .1) (g .a) (g .has) _ (note-at _ _ _ (p .0 .noted) (p .1)) (p .2) (p .3) (sym (c .before .before .before .before .before .before .member-decorated .ensures) ∙ not-false _ (c .before .before .before .before .before .if1 .left)) (c .before .before .if2 .left) (c .before .if3 .taken)) (e .0) (omega (arith, e .1, k)) refl
 
--- src/lib.rt:168:16
 add-t10 : tie.Need-add-t10
 add-t10 c = omega (arith, c .before .before .before .before .before .before .before .from-note .ensures .1)
 
--- src/lib.rt:168:16
 add-t15 : tie.Need-add-t15
 add-t15 c = omega (arith, c .before .before .before .before .before .before .before .from-note .ensures .1, c .before .before .before .before .key-count .ensures .1)
 
--- src/lib.rt:143:1
 returns-4 : tie.Need-returns-4
 returns-4 c =
     let g = c .before .before .before .before .before .before .before .before .before .before .before .args in
