@@ -1,22 +1,24 @@
 -- The note of a record from those of the records behind it, and the loop that fills them in from the last place to the first. Assumes nothing.
 use mathlib.Core.Path.{_≡_, refl, ap, sym, subst, _∙_}
-use mathlib.Core.Bool.{Bool, true, false, _&&_, _||_, true≢false, or-false}
+use mathlib.Core.Bool.{Bool, true, false, _&&_, _||_, cond, true≢false, or-false}
 use mathlib.Core.Logic.{_⊎_, inl, inr}
 use mathlib.Core.Option.{Option, none, some}
-use mathlib.Core.List.{List}
-use Prim.Native.Nat.{ℕ, _+_, _-_, _*_, _/_, _%_, _<_, _≤_}
+use mathlib.Core.List.{List, [], _∷_}
+use Prim.Native.Nat.{ℕ, zero, suc, _+_, _-_, _*_, _/_, _%_, _<_, _≤_}
 use native.Mathlib.Omega.{arith}
-use lib.Dec.{eqb}
+use lib.Dec.{eqb, leb}
 use lib.ListN.{length, getD, set, length-set}
 use lib.Seq.{getD-set-same, getD-set-other}
-use borrow.Author.Tests.{eqb-true, eqb-false, eq-eqb, ne-eqb}
-use Rattle.records.specs.Forest.{takeF}
+use borrow.Author.Tests.{eqb-true, eqb-false, eq-eqb, ne-eqb, leb-true, le-leb}
+use Rattle.records.specs.Forest.{takeF, anyF}
 use Rattle.words.specs.Table.{lookup}
 use Rattle.words.specs.Word.{children, childTable}
-use Rattle.records.specs.Label.{is, arity}
-use Rattle.records.specs.Place.{recordsAt, labelAt, arityAt, kidsAt, endOf, end-one, end-high}
+use Rattle.records.specs.Label.{Label, is, arity}
+use Rattle.records.specs.Place.{recordsAt, labelAt, arityAt, kidsAt, endOf, end-one, end-low, end-high}
 use Rattle.rewriting.specs.Parts.{idOf, isDecorated, isLive}
+use Rattle.inspect.specs.Inside.{anyWord, any-words}
 use Rattle.inspect.specs.Child.{optOf, opt-some, opt-none}
+use Rattle.walk_laws.specs.Still.{changes, changesKind}
 use Rattle.walk_laws.specs.After.{classAfter}
 use Rattle.walk_laws.specs.Kinds.{isElementKind, class-one, class-kind}
 use Rattle.counter.specs.Contract.{Below, stateOf, aliasIn, Planned, Ready, Counts, Free, Noted, Annotated, Walks, hasDefault, defaultFrom, Near, Totals, classCount}
@@ -34,6 +36,13 @@ pub record Behind (ws notes : List ℕ) (at s : ℕ) : Type 0 where
 
 unfoldable pub isLiveClass : List ℕ → ℕ → Bool
 isLiveClass ws at = is 4 (labelAt ws at) && isLive (takeF 1 (recordsAt ws (at + 1)))
+
+-- no word from i up to `next` may change
+unfoldable pub Clear : List ℕ → ℕ → ℕ → Type 0
+Clear ws i next = (j : ℕ) → i ≤ j → j < next → changes (labelAt ws j) ≡ false
+
+unfoldable pub stillBit : ℕ → ℕ → ℕ
+stillBit e next = cond (leb e next) 1 0
 
 -- where the record at `at` ends, and how many symbols it takes where no class around is live
 pub record Leads (ws : List ℕ) (at : ℕ) (t : Total) : Type 0 where
@@ -159,42 +168,84 @@ module _ {ws notes : List ℕ} {at s : ℕ} (w : Behind ws notes at s) where
 
 -- ---- the note
 
-pub leads-noted : {ws : List ℕ} {at : ℕ} {t : Total} (v r : ℕ) → Leads ws at t → r ≡ 32768 * t .at + 2 * t .count + v % 2 → Noted ws at r × (aliasIn r ≡ aliasIn v)
-leads-noted {ws} {at} {t} v r h e =
+pub bit-small : (e next : ℕ) → stillBit e next ≤ 1
+unfolding stillBit
+bit-small e next = go (leb e next)
+  where
+    go : (b : Bool) → cond b 1 0 ≤ 1
+    go true = omega arith
+    go false = omega arith
+
+pub bit-one : (e next : ℕ) → e ≤ next → 1 ≡ stillBit e next
+unfolding stillBit
+bit-one e next h = rw (le-leb e next h)
+
+pub bit-none : (e next : ℕ) → (e ≤ next → ⊥) → 0 ≡ stillBit e next
+unfolding stillBit
+bit-none e next h = go (leb e next) refl
+  where
+    go : (b : Bool) → leb e next ≡ b → _≡_ {A = ℕ} 0 (cond b 1 0)
+    go true g = absurd (h (leb-true e next g))
+    go false g = refl
+
+bit-le : (e next : ℕ) → stillBit e next ≡ 1 → e ≤ next
+unfolding stillBit
+bit-le e next h = go (leb e next) refl h
+  where
+    go : (b : Bool) → leb e next ≡ b → _≡_ {A = ℕ} (cond b 1 0) 1 → e ≤ next
+    go true g z = leb-true e next g
+    go false g z = absurd (omega arith)
+
+clear-any : (ws : List ℕ) (i next n : ℕ) → Clear ws i next → i + n ≤ next → anyWord changes ws i n ≡ false
+unfolding Clear anyWord
+clear-any ws i next zero c h = refl
+clear-any ws i next (suc n) c h = rw (c i (omega arith) (omega arith)) (clear-any ws (i + 1) next n (λ j l. c j (omega arith)) (omega arith))
+
+pub leads-noted : {ws : List ℕ} {at : ℕ} {t : Total} (next v r : ℕ) → Leads ws at t → Clear ws at next → r ≡ 65536 * t .at + 4 * t .count + 2 * stillBit (t .at) next + v % 2 →
+    Noted ws at r × (aliasIn r ≡ aliasIn v)
+leads-noted {ws} {at} {t} next v r h z e =
     let c : t .count < 16384 = omega (arith, h .few .1) in
+    let q : stillBit (t .at) next < 2 = omega (arith, bit-small (t .at) next) in
     let a : v % 2 < 2 = omega arith in
-    (subst (Noted ws at) (sym e) (noted-by ws at (t .at) (t .count) (v % 2) c a (h .place) (h .count)),
-    ap (λ (x : ℕ). eqb x 1) (ap (λ (x : ℕ). x % 2) e ∙ note-alias (t .at) (t .count) (v % 2) c a))
+    (subst (Noted ws at) (sym e) (noted-by ws at (t .at) (t .count) (stillBit (t .at) next) (v % 2) c q a (h .place) still (h .count)),
+    ap (λ (x : ℕ). eqb x 1) (ap (λ (x : ℕ). x % 2) e ∙ note-alias (t .at) (t .count) (stillBit (t .at) next) (v % 2) c q a))
+  where
+    still : stillBit (t .at) next ≡ 1 → anyF changes (takeF 1 (recordsAt ws at)) ≡ false
+    still b =
+        any-words ws changes at 1
+        ∙ clear-any ws at next (endOf ws at 1 - at) z (omega (arith, bit-le (t .at) next b, h .place, end-low ws at 1))
 
 -- ---- the loop from the last place to the first
 
 -- the notes from the place i on, in a table of m entries
-pub record Filled (ws notes : List ℕ) (m i : ℕ) : Type 0 where
+pub record Filled (ws notes : List ℕ) (m i next : ℕ) : Type 0 where
+  pub clear : Clear ws i next
   pub low : i ≤ length ws
   pub long : length notes ≡ m
   pub planned : Planned ws notes
   pub noted : Annotated ws notes i
 
-noted-of : {ws notes : List ℕ} {m i : ℕ} → Filled ws notes m i → (j : ℕ) → i ≤ j → j < length ws → Noted ws j (getD notes j 0)
+noted-of : {ws notes : List ℕ} {m i next : ℕ} → Filled ws notes m i next → (j : ℕ) → i ≤ j → j < length ws → Noted ws j (getD notes j 0)
 unfolding Annotated
 noted-of d j l h = d .noted j l h
 
-pub filled-start : {ws notes : List ℕ} → Planned ws notes → Filled ws notes (length notes) (length ws)
-filled-start {ws} p = record { low = omega arith; long = refl; planned = p; noted = unfold Annotated in λ i l h. absurd (omega (arith, l, h)) }
+pub filled-start : {ws notes : List ℕ} → Planned ws notes → Filled ws notes (length notes) (length ws) (length ws)
+filled-start {ws} p = record { clear = unfold Clear in λ j l h. absurd (omega (arith, l, h)); low = omega arith; long = refl; planned = p; noted = unfold Annotated in λ i l h. absurd (omega (arith, l, h)) }
 
 -- one place back
-pub down : {ws notes : List ℕ} {m i : ℕ} → Filled ws notes m i → (i ≡ 0 → ⊥) → Filled ws notes m (i - 1 + 1)
-down {ws} {notes} {m} {i} d h = let e : i ≡ i - 1 + 1 = omega (arith, h) in subst (Filled ws notes m) e d
+pub down : {ws notes : List ℕ} {m i next : ℕ} → Filled ws notes m i next → (i ≡ 0 → ⊥) → Filled ws notes m (i - 1 + 1) next
+down {ws} {notes} {m} {i} {next} d h = let e : i ≡ i - 1 + 1 = omega (arith, h) in subst (λ (j : ℕ). Filled ws notes m j next) e d
 
-pub filled-behind : {ws notes₀ notes : List ℕ} {m i s : ℕ} → Ready ws notes₀ 0 s → Filled ws notes m (i + 1) → Behind ws notes i s
-filled-behind {ws} {notes₀} {notes} {m} {i} {s} f d = record {
+pub filled-behind : {ws notes₀ notes : List ℕ} {m i next s : ℕ} → Ready ws notes₀ 0 s → Filled ws notes m (i + 1) next → Behind ws notes i s
+filled-behind {ws} {notes₀} {notes} {m} {i} {next} {s} f d = record {
   ready = record { few = f .few; inside = omega (arith, d .low); whole = f .whole; planned = d .planned; ids = f .ids; room = omega (arith, f .room) };
   inside = omega (arith, d .low);
   noted = d .noted;
 }
 
-pub filled-next : {ws notes : List ℕ} {m i : ℕ} (v : ℕ) → Filled ws notes m (i + 1) → Noted ws i v → aliasIn v ≡ aliasIn (getD notes i 0) → Filled ws (set notes i v) m i
-filled-next {ws} {notes} {m} {i} v d t e = record {
+pub filled-next : {ws notes : List ℕ} {m i next : ℕ} (v k : ℕ) → Filled ws notes m (i + 1) next → Clear ws i k → Noted ws i v → aliasIn v ≡ aliasIn (getD notes i 0) → Filled ws (set notes i v) m i k
+filled-next {ws} {notes} {m} {i} v k d z t e = record {
+  clear = z;
   low = omega (arith, d .low);
   long = length-set notes i v ∙ d .long;
   planned = record {
@@ -220,3 +271,29 @@ filled-next {ws} {notes} {m} {i} v d t e = record {
     other j l h false g =
         let z : j ≡ i → ⊥ = eqb-false j i g in
         subst (Noted ws j) (sym (getD-set-other notes i j v 0 z)) (noted-of d j (omega arith) h)
+
+-- ---- the words that may change
+
+module _ (ws : List ℕ) (i next : ℕ) where
+  pub clear-here : Clear ws i i
+  unfolding Clear
+  clear-here j l h = absurd (omega (arith, l, h))
+
+  pub clear-next : Clear ws (i + 1) next → changes (labelAt ws i) ≡ false → Clear ws i next
+  unfolding Clear
+  clear-next c e j l h = go (eqb j i) refl
+    where
+      go : (b : Bool) → eqb j i ≡ b → changes (labelAt ws j) ≡ false
+      go true g = ap (λ (k : ℕ). changes (labelAt ws k)) (eqb-true j i g) ∙ e
+      go false g = let z : j ≡ i → ⊥ = eqb-false j i g in c j (omega (arith, l, z)) h
+
+pub changes-at : (ws : List ℕ) (i k : ℕ) (b : Bool) → k ≡ labelAt ws i .kind → b ≡ changesKind k → changes (labelAt ws i) ≡ b
+unfolding changes
+changes-at ws i k b e h = sym (h ∙ ap changesKind e)
+
+pub changes-one : (k j : ℕ) → k ≡ j → changesKind j ≡ true → true ≡ changesKind k
+changes-one k j e t = sym (ap changesKind e ∙ t)
+
+pub changes-none : (k : ℕ) → (k ≡ 1 → ⊥) → (k ≡ 4 → ⊥) → (k ≡ 20 → ⊥) → (k ≡ 30 → ⊥) → (k ≡ 31 → ⊥) → (k ≡ 32 → ⊥) → false ≡ changesKind k
+unfolding changesKind lookup
+changes-none k a b c d e f = rw (ne-eqb k 1 a, ne-eqb k 4 b, ne-eqb k 20 c, ne-eqb k 30 d, ne-eqb k 31 e, ne-eqb k 32 f)

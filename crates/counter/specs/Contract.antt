@@ -7,7 +7,7 @@ use mathlib.Core.List.{List, [], _∷_}
 use Prim.Native.Nat.{ℕ, _+_, _-_, _*_, _/_, _%_, _<_, _≤_}
 use lib.Dec.{eqb}
 use lib.ListN.{length, getD}
-use Rattle.records.specs.Forest.{takeF}
+use Rattle.records.specs.Forest.{takeF, anyF}
 use Rattle.records.specs.Label.{Trees}
 use Rattle.records.specs.Place.{recordsAt, labelAt, kidsAt, endOf}
 use Rattle.grammar.specs.Grammar.{module′}
@@ -17,6 +17,7 @@ use Rattle.rewriting.specs.Visit.{Around, State, visit}
 use Rattle.inspect.specs.Child.{optOf}
 use Rattle.walk_laws.specs.Rows.{visitAt, fresh}
 use Rattle.walk_laws.specs.After.{mentioned}
+use Rattle.walk_laws.specs.Still.{changes}
 use Rattle.counter.specs.declared.Scope.{Scope}
 use Rattle.counter.specs.declared.Counted.{Counted}
 use Rattle.counter.specs.declared.Total.{Total}
@@ -36,9 +37,13 @@ Below n (some c) = c < n
 unfoldable pub elementsFrom : List ℕ → ℕ → ℕ → Trees
 elementsFrom ws at n = elementsOf (classKids (visitAt ws (at + 1) 1 (record { live = true; id = idOf (kidsAt ws (at + 1)) }) (fresh n) .here))
 
--- a note is a number of a word's size: in its lowest bit whether the class of the statement takes an alias, then 14 bits for a count, then a place
+-- a note is a number of a word's size: in its lowest bit whether the class of the statement takes an alias, in the next whether the record becomes what it
+-- is, then 14 bits for a count, then a place
 abbrev pub aliasIn : ℕ → Bool
 aliasIn w = eqb (w % 2) 1
+
+abbrev pub stillIn : ℕ → Bool
+stillIn w = eqb (w / 2 % 2) 1
 
 -- the note of a class statement says that its class takes an alias exactly when rule 6's search finds its symbol, whatever the counter in front of it
 pub record Planned (ws notes : List ℕ) : Type 0 where
@@ -67,10 +72,11 @@ pub record Free (ws : List ℕ) (at n : ℕ) : Type 0 where
   pub ids : (i : ℕ) → labelAt ws i .kind ≡ 26 → Below n (idOf (kidsAt ws i))
   pub room : n + 2 * (length ws - at) < 67108864
 
--- the note w of the record at i says where it ends, and how many fresh symbols it takes where no class around is live
+-- the note w of the record at i says where it ends, how many fresh symbols it takes where no class around is live, and perhaps that nothing in it changes
 pub record Noted (ws : List ℕ) (i w : ℕ) : Type 0 where
-  pub place : w / 32768 ≡ endOf ws i 1
-  pub count : (a : Scope) (n d : ℕ) → a .live ≡ false → Free ws i n → Counts ws i 1 a n d (record { at = w / 32768; next = n + w / 2 % 16384; default = d })
+  pub place : w / 65536 ≡ endOf ws i 1
+  pub still : stillIn w ≡ true → anyF changes (takeF 1 (recordsAt ws i)) ≡ false
+  pub count : (a : Scope) (n d : ℕ) → a .live ≡ false → Free ws i n → Counts ws i 1 a n d (record { at = w / 65536; next = n + w / 4 % 16384; default = d })
 
 -- so do the notes of all places from `at` on
 unfoldable pub Annotated : List ℕ → List ℕ → ℕ → Type 0

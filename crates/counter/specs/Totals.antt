@@ -11,7 +11,7 @@ use native.Mathlib.Omega.{arith}
 use lib.Dec.{eqb}
 use lib.ListN.{length, getD}
 use borrow.Author.Tests.{eqb-true, eqb-false, eq-eqb, ne-eqb}
-use Rattle.records.specs.Forest.{takeF}
+use Rattle.records.specs.Forest.{takeF, anyF}
 use Rattle.records.specs.Label.{Label, Trees}
 use Rattle.records.specs.Place.{recordsAt, labelAt, arityAt, kidsAt, endOf, end-one, end-add, end-low, end-high}
 use Rattle.rewriting.specs.Parts.{idOf, isDecorated, isDecoratedMember, hasPlainKey, isLive}
@@ -21,6 +21,7 @@ use Rattle.walk_laws.specs.Rows.{visitAt, one-after, kids-visit}
 use Rattle.walk_laws.specs.After.{keyAfter, memberAfter, classAfter, decoratedAfter, aliasAfter, defaultAfter}
 use Rattle.walk_laws.specs.Kinds.{isElementKind, element-after, class-one, class-kind}
 use Rattle.walk_laws.specs.Quiet.{hasClass}
+use Rattle.walk_laws.specs.Still.{changes}
 use Rattle.walk_laws.specs.Around.{kids-same, after-same}
 use Rattle.counter.specs.Contract.{aroundOf, stateOf, Below, aliasIn, Planned, Ready, Counts, Free, Noted, Annotated, Walks, hasDefault, defaultFrom, Near, FromAny, Totals, keyCount, classCount}
 use Rattle.counter.specs.Steps.{counts-on, counts-low, counts-high, counts-within, below-more, ready-on, count-none, count-past, count-add, count-rest, count-other, count-dropped, count-plain, count-member, count-expression, count-declared, count-live, kids-one, arity-20, taken-id, taken-default, taken-fresh}
@@ -261,21 +262,21 @@ module _ {ws notes : List ℕ} {at : ℕ} (w : Walks ws notes at) (h : at < leng
       }
 
 module _ {ws notes : List ℕ} {at : ℕ} (w : Walks ws notes at) (h : at < length ws) (a : Scope) (has : Bool) (x : ℕ) (t : Noted ws at x) where
-  total-by : ((b : Scope) (n d : ℕ) → Free ws at n → b .live ≡ a .live → Counts ws at 1 b n d (record { at = x / 32768; next = n + x / 2 % 16384; default = d })) →
-      Totals ws at 1 a has (record { at = x / 32768; count = x / 2 % 16384; default = 67108864 })
+  total-by : ((b : Scope) (n d : ℕ) → Free ws at n → b .live ≡ a .live → Counts ws at 1 b n d (record { at = x / 65536; next = n + x / 4 % 16384; default = d })) →
+      Totals ws at 1 a has (record { at = x / 65536; count = x / 4 % 16384; default = 67108864 })
   total-by f =
-      let all : FromAny ws at 1 a has (x / 32768) (x / 2 % 16384) 67108864 = λ b n d g l e.
+      let all : FromAny ws at 1 a has (x / 65536) (x / 4 % 16384) 67108864 = λ b n d g l e.
           counts-same (f b n d g l) refl refl (from-none 67108864 n d refl) in
       record {
         place = t .place;
         low = inl refl;
         dead = λ e. refl;
-        few = few-of w {k = 1} {a = a} has (x / 32768) (x / 2 % 16384) 67108864 all;
+        few = few-of w {k = 1} {a = a} has (x / 65536) (x / 4 % 16384) 67108864 all;
         after = all;
       }
 
   -- where the class around isn't live, the note says all
-  pub total-dead : a .live ≡ false → Totals ws at 1 a has (record { at = x / 32768; count = x / 2 % 16384; default = 67108864 })
+  pub total-dead : a .live ≡ false → Totals ws at 1 a has (record { at = x / 65536; count = x / 4 % 16384; default = 67108864 })
   total-dead e = total-by λ b n d f l. t .count b n d (l ∙ e) f
 
   unlive : Scope
@@ -287,7 +288,7 @@ module _ {ws notes : List ℕ} {at : ℕ} (w : Walks ws notes at) (h : at < leng
 
   -- a record that is no class, no body and no element
   pub total-quiet : (labelAt ws at .kind ≡ 26 → ⊥) → (labelAt ws at .kind ≡ 29 → ⊥) → (labelAt ws at .kind ≡ 30 → ⊥) → (labelAt ws at .kind ≡ 31 → ⊥) →
-      (labelAt ws at .kind ≡ 32 → ⊥) → Totals ws at 1 a has (record { at = x / 32768; count = x / 2 % 16384; default = 67108864 })
+      (labelAt ws at .kind ≡ 32 → ⊥) → Totals ws at 1 a has (record { at = x / 65536; count = x / 4 % 16384; default = 67108864 })
   unfolding unlive
   total-quiet a26 a29 a30 a31 a32 = total-by λ b n d f l.
       record { place = t .place; state = after-same ws (w .ready .whole) at h (aroundOf b) (aroundOf unlive) (stateOf n d) a26 a29 a30 a31 a32 ∙ t .count unlive n d refl f .state }
@@ -295,7 +296,7 @@ module _ {ws notes : List ℕ} {at : ℕ} (w : Walks ws notes at) (h : at < leng
   -- ---- an element of a live class
 
   module _ (kind : isElementKind (labelAt ws at .kind) ≡ true) where
-    kids-counts : (b : Scope) (n d : ℕ) → Free ws at n → Counts ws (at + 1) (arityAt ws at) b n d (record { at = x / 32768; next = n + x / 2 % 16384; default = d })
+    kids-counts : (b : Scope) (n d : ℕ) → Free ws at n → Counts ws (at + 1) (arityAt ws at) b n d (record { at = x / 65536; next = n + x / 4 % 16384; default = d })
     unfolding unlive
     kids-counts b n d f = record {
       place = t .place ∙ end-one ws at h;
@@ -312,12 +313,12 @@ module _ {ws notes : List ℕ} {at : ℕ} (w : Walks ws notes at) (h : at < leng
             kids-same ws (w .ready .whole) at h (aroundOf b) (aroundOf unlive) (stateOf n d) (not-element 26 kind (unfold isElementKind in refl)) (not-element 29 kind (unfold isElementKind in refl)) (no-class _ kind)
 
     -- one that isn't decorated
-    pub total-plain : isDecoratedMember (labelAt ws at) (kidsAt ws at) ≡ false → Totals ws at 1 a has (record { at = x / 32768; count = x / 2 % 16384; default = 67108864 })
+    pub total-plain : isDecoratedMember (labelAt ws at) (kidsAt ws at) ≡ false → Totals ws at 1 a has (record { at = x / 65536; count = x / 4 % 16384; default = 67108864 })
     total-plain e = total-by λ b n d f l. count-plain (free-ready (w .ready) f) h b d kind e (kids-counts b n d f)
 
     module _ (live : a .live ≡ true) (dec : isDecoratedMember (labelAt ws at) (kidsAt ws at) ≡ true) where
       abbrev c : ℕ
-      c = x / 2 % 16384
+      c = x / 4 % 16384
 
       abbrev key : ℕ
       key = keyCount (hasPlainKey (kidsAt ws at))
@@ -326,16 +327,16 @@ module _ {ws notes : List ℕ} {at : ℕ} (w : Walks ws notes at) (h : at < leng
       member : (m o : ℕ) → ((o ≡ 67108864) ⊎ (o < c + m)) →
           ((n d : ℕ) → Free ws at n → hasDefault d ≡ has →
           keyAfter (hasPlainKey (kidsAt ws at)) (classSymbol (optOf (a .id)) (optOf d) (stateOf (n + c) d) .after) ≡ stateOf (n + (c + m)) (defaultFrom o n d)) →
-          Totals ws at 1 a has (record { at = x / 32768; count = c + m; default = o })
+          Totals ws at 1 a has (record { at = x / 65536; count = c + m; default = o })
       member m o low f =
-          let all : FromAny ws at 1 a has (x / 32768) (c + m) o = λ b n d g l e.
+          let all : FromAny ws at 1 a has (x / 65536) (c + m) o = λ b n d g l e.
               count-member (free-ready (w .ready) g) h b d (n + (c + m)) (defaultFrom o n d) kind (l ∙ live) dec (kids-counts b n d g)
               (ap (λ (y : Scope). keyAfter (hasPlainKey (kidsAt ws at)) (classSymbol (optOf (y .id)) (optOf d) (stateOf (n + c) d) .after)) (e live .0) ∙ f n d g (e live .1)) in
           record {
             place = t .place;
             low = low;
             dead = λ e. absurd (true≢false (sym live ∙ e));
-            few = few-of w {k = 1} {a = a} has (x / 32768) (c + m) o all;
+            few = few-of w {k = 1} {a = a} has (x / 65536) (c + m) o all;
             after = all;
           }
 
@@ -345,23 +346,23 @@ module _ {ws notes : List ℕ} {at : ℕ} (w : Walks ws notes at) (h : at < leng
       small : (n : ℕ) → Free ws at n → n + c < 67108864
       unfolding unlive
       small n f =
-          let g : Counts ws at 1 unlive n 67108864 (record { at = x / 32768; next = n + x / 2 % 16384; default = 67108864 }) = t .count unlive n 67108864 refl f in
+          let g : Counts ws at 1 unlive n 67108864 (record { at = x / 65536; next = n + x / 4 % 16384; default = 67108864 }) = t .count unlive n 67108864 refl f in
           omega (arith, counts-high g, counts-within g (w .ready .inside), f .room, h, counts-on g)
 
       -- the class has an id
-      pub total-named : (a .id ≡ 67108864 → ⊥) → Totals ws at 1 a has (record { at = x / 32768; count = c + key; default = 67108864 })
+      pub total-named : (a .id ≡ 67108864 → ⊥) → Totals ws at 1 a has (record { at = x / 65536; count = c + key; default = 67108864 })
       total-named i = member key 67108864 (inl refl) λ n d f g.
           ap (keyAfter (hasPlainKey (kidsAt ws at))) (sym (taken-id (a .id) (n + c) d i)) ∙ key-after (n + c) d
           ∙ cc (sum n c key, from-none 67108864 n d refl)
 
       -- it has its default symbol
-      pub total-defaulted : a .id ≡ 67108864 → has ≡ true → Totals ws at 1 a has (record { at = x / 32768; count = c + key; default = 67108864 })
+      pub total-defaulted : a .id ≡ 67108864 → has ≡ true → Totals ws at 1 a has (record { at = x / 65536; count = c + key; default = 67108864 })
       total-defaulted i y = member key 67108864 (inl refl) λ n d f g.
           ap (keyAfter (hasPlainKey (kidsAt ws at))) (sym (taken-default (a .id) (n + c) d i (has-not d (g ∙ y)))) ∙ key-after (n + c) d
           ∙ cc (sum n c key, from-none 67108864 n d refl)
 
       -- it takes it here
-      pub total-taken : a .id ≡ 67108864 → has ≡ false → Totals ws at 1 a has (record { at = x / 32768; count = c + (1 + key); default = c })
+      pub total-taken : a .id ≡ 67108864 → has ≡ false → Totals ws at 1 a has (record { at = x / 65536; count = c + (1 + key); default = c })
       total-taken i y = member (1 + key) c (inr (omega arith)) λ n d f g.
           ap (keyAfter (hasPlainKey (kidsAt ws at))) (sym (taken-fresh (a .id) (n + c) d (small n f) i (no-default d (g ∙ y)))) ∙ key-after (n + c + 1) (n + c)
           ∙ cc (sum-one n c key, from-some c n d (λ e. omega (arith, small n f)))
@@ -392,22 +393,26 @@ class-symbols x o m n e r h = ap (n +_) h ∙ sym (class-after x o m n e)
 -- ---- notes
 
 -- the number of a note, taken apart again
-module _ (p c a : ℕ) (cl : c < 16384) (al : a < 2) where
-  pub note-place : (32768 * p + 2 * c + a) / 32768 ≡ p
+module _ (p c q a : ℕ) (cl : c < 16384) (ql : q < 2) (al : a < 2) where
+  pub note-place : (65536 * p + 4 * c + 2 * q + a) / 65536 ≡ p
   note-place = omega arith
 
-  pub note-count : (32768 * p + 2 * c + a) / 2 % 16384 ≡ c
+  pub note-count : (65536 * p + 4 * c + 2 * q + a) / 4 % 16384 ≡ c
   note-count = omega arith
 
-  pub note-alias : (32768 * p + 2 * c + a) % 2 ≡ a
+  pub note-still : (65536 * p + 4 * c + 2 * q + a) / 2 % 2 ≡ q
+  note-still = omega arith
+
+  pub note-alias : (65536 * p + 4 * c + 2 * q + a) % 2 ≡ a
   note-alias = omega arith
 
 -- a note by its parts
-pub noted-by : (ws : List ℕ) (i p c a : ℕ) → c < 16384 → a < 2 → p ≡ endOf ws i 1 →
-    ((b : Scope) (n d : ℕ) → b .live ≡ false → Free ws i n → Counts ws i 1 b n d (record { at = p; next = n + c; default = d })) → Noted ws i (32768 * p + 2 * c + a)
-noted-by ws i p c a cl al e f = record {
-  place = note-place p c a cl al ∙ e;
-  count = λ b n d l g. counts-same (f b n d l g) (note-place p c a cl al) (ap (n +_) (note-count p c a cl al)) refl;
+pub noted-by : (ws : List ℕ) (i p c q a : ℕ) → c < 16384 → q < 2 → a < 2 → p ≡ endOf ws i 1 → (q ≡ 1 → anyF changes (takeF 1 (recordsAt ws i)) ≡ false) →
+    ((b : Scope) (n d : ℕ) → b .live ≡ false → Free ws i n → Counts ws i 1 b n d (record { at = p; next = n + c; default = d })) → Noted ws i (65536 * p + 4 * c + 2 * q + a)
+noted-by ws i p c q a cl ql al e t f = record {
+  place = note-place p c q a cl ql al ∙ e;
+  still = λ h. t (sym (note-still p c q a cl ql al) ∙ eqb-true _ 1 h);
+  count = λ b n d l g. counts-same (f b n d l g) (note-place p c q a cl ql al) (ap (n +_) (note-count p c q a cl ql al)) refl;
 }
 
 -- ---- the numbers of rules 5 and 6, case by case

@@ -139,11 +139,11 @@ fn total_record(ws: &[u32], notes: &[u32], at: usize, a: Scope, has: bool) -> To
 
 // What the note w says.
 fn from_note(w: u32) -> Total
-    ensures { λ r. ⌜ (r .at ≡ w / 32768) × (r .count ≡ w / 2 % 16384) × (r .default ≡ 67108864) ⌝ }
+    ensures { λ r. ⌜ (r .at ≡ w / 65536) × (r .count ≡ w / 4 % 16384) × (r .default ≡ 67108864) ⌝ }
 {
     Total {
-        at: (w / 32768) as usize,
-        count: w / 2 % 16384,
+        at: (w / 65536) as usize,
+        count: w / 4 % 16384,
         default: NONE,
     }
 }

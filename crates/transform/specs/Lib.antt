@@ -6,6 +6,7 @@ pub mod Leaves
 pub mod Plans
 pub mod Steps
 pub mod StepsClasses
+pub mod Copies
 pub mod StepsRecords
 pub mod StepsCalls
 pub mod StepsMembers

@@ -31,6 +31,7 @@ ghost use Rattle.walk_laws.specs.Classes.{optional, one, exportWords, ds, class
 ghost use Rattle.counter.specs.Contract.{aroundOf, stateOf, aliasIn, Below, Ready, Annotated};
 ghost use Rattle.transform.specs.Nest.{nestAt};
 ghost use Rattle.transform.specs.Contract.{wordBelow, wordsOf, stateIn, hereAt, callsAt, afterAt, kidsHere, Asks, Moved, Emitted, Queues, behindWords, memberWords, takesKey};
+ghost use Rattle.transform.specs.Copies.{Copies, Copied};
 ghost use Rattle.transform.specs.ClassWords.{scopeOf, bodyWord, frontOf, blockOf, letWords, headOf, flagsOf, nameWords, frontWords, assignWords, elementsBy, bodyBy, firstBy, assignmentBy, PlanFrom, Plans};
 
 // Where the walk stands: in the words read and the words written; the state; how many records were written.
@@ -138,6 +139,10 @@ pub fn record(
     requires { ⌜ Asks (now ws) (now notes) at 1 (s .next) c pos (size (hereAt (now ws) at 1 a s)) × (at < length (now ws)) ⌝ }
     ensures { λ r. ⌜ Emitted (now (ws .entry)) at 1 a s c (now (out .entry)) pos (now (out .exit)) r ⌝ }
 {
+    let w = notes[at];
+    if w / 2 % 2 == 1 {
+        return copied(ws, at, (w / 65536) as usize, s, c, out, pos);
+    }
     let k = inspect::kind_at(ws, at);
     match k {
         1 => program(ws, notes, at, a, s, c, out, pos),
@@ -155,6 +160,32 @@ pub fn record(
         31 => member(ws, notes, at, a, s, c, out, pos),
         32 => member(ws, notes, at, a, s, c, out, pos),
         _ => kept(ws, notes, at, a, s, c, out, pos),
+    }
+}
+
+// A record in which nothing changes, and which ends at e: its words under the classes around.
+fn copied(ws: &[u32], at: usize, e: usize, s: Count, c: ClassStack, out: &mut [u32], pos: usize) -> Went
+    requires { ⌜ Copies (now ws) at e c pos ⌝ }
+    ensures { λ r. ⌜ Copied (now (ws .entry)) at e s c (now (out .entry)) pos (now (out .exit)) r ⌝ }
+{
+    let mut i = at;
+    let mut p = pos;
+    while i < e {
+        p = put(
+            c,
+            inspect::kind_at(ws, i),
+            inspect::payload_at(ws, i),
+            out,
+            p,
+        );
+        i += 1;
+    }
+    Went {
+        at: e,
+        pos: p,
+        next: s.next,
+        default: s.default,
+        count: 1,
     }
 }
 

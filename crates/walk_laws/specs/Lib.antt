@@ -7,6 +7,7 @@ pub mod Single
 pub mod Roles
 pub mod Quiet
 pub mod Around
+pub mod Still
 pub mod Elements
 pub mod Members
 pub mod Calls
