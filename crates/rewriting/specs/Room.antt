@@ -32,6 +32,11 @@ pub seven-before-eight : (ws xs : List ℕ) (room : ℕ) → (turnedBack ws ≡ 
 unfolding answerOf
 seven-before-eight ws xs room n = rw (ne-eqb (turnedBack ws) 0 n)
 
+-- "A refusal leaves output untouched"
+pub untouched : (r : Answer) (xs o : List ℕ) → (r .code ≡ 0 → ⊥) → lentAfter r xs o ≡ o
+unfolding lentAfter
+untouched r xs o n = rw (ne-eqb (r .code) 0 n)
+
 -- ---- an answer, by cases
 
 -- turned back, too short, or written
@@ -76,11 +81,6 @@ room-cut ws xs m n bound =
       λ h. unfold answerOf in rw (eq-eqb (turnedBack ws) 0 t, le-ltb n (length xs) h),
       λ h. unfold answerOf in rw (eq-eqb (turnedBack ws) 0 t, lt-ltb n (length xs) h),
     ))
-
--- "A refusal leaves output untouched"
-pub untouched : (r : Answer) (xs o : List ℕ) → (r .code ≡ 0 → ⊥) → lentAfter r xs o ≡ o
-unfolding lentAfter
-untouched r xs o n = rw (ne-eqb (r .code) 0 n)
 
 -- ---- room enough
 

@@ -80,13 +80,12 @@ module _ {s : ℕ} {ws : List ℕ} {at : ℕ} (c x d : ℕ) (h : Here s ws at (p
   here-total = total-below (slot c x) (kindOf (getD ws at 0)) (payloadOf (getD ws at 0)) (here-faultless .grammar)
 
 -- where the category is known by a test
-module _ {s : ℕ} {ws : List ℕ} {at : ℕ} (c x d : ℕ) where
-  pub here-as : (n f : ℕ) → c ≡ n → at < length ws → f ≡ faultAt s (place (slot c x) d) (getD ws at 0) → f ≡ 0 → Here s ws at (place (slot n x) d)
-  here-as n f e i ef z = record { inside = i; free = ap (λ (m : ℕ). faultAt s (place (slot m x) d) (getD ws at 0)) (sym e) ∙ sym ef ∙ z }
+module _ {s : ℕ} {ws : List ℕ} (at c x d n : ℕ) (e : c ≡ n) where
+  pub here-as : Here s ws at (place (slot c x) d) → Here s ws at (place (slot n x) d)
+  here-as h = subst (λ (m : ℕ). Here s ws at (place (slot m x) d)) e h
 
-  pub one-walked : (n f : ℕ) {r : Step} → c ≡ n → at < length ws → f ≡ faultAt s (place (slot c x) d) (getD ws at 0) → f ≡ 0
-      → Walked s ws (at + 1) (belowAt (place (slot n x) d) (getD ws at 0)) r → Walked s ws at (place (slot c x) d ∷ []) r
-  one-walked n f e i ef z t = rw e (walked-one (place (slot n x) d) (here-as n f e i ef z) t)
+  pub nested-as : {r : Step} → Walked s ws (at + 1) (belowAt (place (slot n x) d) (getD ws at 0)) r → Walked s ws (at + 1) (belowAt (place (slot c x) d) (getD ws at 0)) r
+  nested-as {r} t = subst (λ (m : ℕ). Walked s ws (at + 1) (belowAt (place (slot m x) d) (getD ws at 0)) r) (sym e) t
 
 -- ---- tests of every row
 
@@ -311,27 +310,34 @@ module _ {s : ℕ} {ws : List ℕ} {at : ℕ} {qs : List Place} {p : ℕ} (c x l
     pub loop-next : {a : Step} → Walked s ws p (q ∷ []) a → a .fault ≡ 0 → Rest s ws at qs (a .next) (replicate (k - 1) q)
     loop-next t z = record { whole = λ u. h .whole (walked-as (first-split q k some) (walked-then (q ∷ []) (replicate (k - 1) q) t z u)) }
 
-    -- its word has no fault, and its m children are expressions
-    module _ (f m : ℕ) (le : left ≤ maxDepth) (i : p < length ws) (ef : f ≡ faultAt s q (getD ws p 0)) (z : f ≡ 0)
-        (b : bitOf plain (kindOf (getD ws p 0)) ≡ 0 → ⊥) (em : m ≡ children (kindOf (getD ws p 0)) (payloadOf (getD ws p 0))) where
-      here : Here s ws p q
-      here = here-as c x (maxDepth + 1 - left) c f refl i ef z
-
-      above : {r : Step} → Walked s ws (p + 1) (replicate m e) r → Walked s ws p (q ∷ []) r
-      above t = walked-one q here (walked-as (plain-below c x left here le refl m em b) t)
+    -- its word has no fault
+    module _ (f : ℕ) (i : p < length ws) (ef : f ≡ faultAt s q (getD ws p 0)) (z : f ≡ 0) where
+      pub loop-here : Here s ws p q
+      loop-here = record { inside = i; free = sym ef ∙ z }
 
       pub loop-depth : maxDepth + 1 - left ≤ maxDepth
-      loop-depth = here-depth c x (maxDepth + 1 - left) here
+      loop-depth = here-depth c x (maxDepth + 1 - left) loop-here
 
-      pub loop-leaf : m ≡ 0 → Rest s ws at qs (p + 1) (replicate (k - 1) q)
-      loop-leaf o = loop-next (above (walked-as (ap (λ (n : ℕ). replicate n e) o) walked-none)) refl
+      pub loop-stop-nested : {a : Step} → Walked s ws (p + 1) (belowAt q (getD ws p 0)) a → (a .fault ≡ 0 → ⊥) → Walked s ws at qs a
+      loop-stop-nested t n = loop-stop (walked-one q loop-here t) n
 
-      pub loop-stop-below : {a : Step} → Walked s ws (p + 1) (replicate m e) a → (a .fault ≡ 0 → ⊥) → Walked s ws at qs a
-      loop-stop-below t n = loop-stop (above t) n
+      pub loop-next-nested : {a : Step} → Walked s ws (p + 1) (belowAt q (getD ws p 0)) a → a .fault ≡ 0 → Rest s ws at qs (a .next) (replicate (k - 1) q)
+      loop-next-nested t o = loop-next (walked-one q loop-here t) o
 
-      pub loop-next-below : {a : Step} → Walked s ws (p + 1) (replicate m e) a → a .fault ≡ 0 → Rest s ws at qs (a .next) (replicate (k - 1) q)
-      loop-next-below t o = loop-next (above t) o
+      -- and its m children are expressions
+      module _ (m : ℕ) (le : left ≤ maxDepth) (b : bitOf plain (kindOf (getD ws p 0)) ≡ 0 → ⊥) (em : m ≡ children (kindOf (getD ws p 0)) (payloadOf (getD ws p 0))) where
+        above : {r : Step} → Walked s ws (p + 1) (replicate m e) r → Walked s ws p (q ∷ []) r
+        above t = walked-one q loop-here (walked-as (plain-below c x left loop-here le refl m em b) t)
 
-      -- it is the last one, and its children are left
-      pub loop-down : k - 1 ≡ 0 → Rest s ws at qs (p + 1) (replicate m e)
-      loop-down o = record { whole = λ u. h .whole (walked-as (first-split q k some ∙ ap (λ (n : ℕ). (q ∷ []) ++ replicate n q) o) (above u)) }
+        pub loop-leaf : m ≡ 0 → Rest s ws at qs (p + 1) (replicate (k - 1) q)
+        loop-leaf o = loop-next (above (walked-as (ap (λ (n : ℕ). replicate n e) o) walked-none)) refl
+
+        pub loop-stop-below : {a : Step} → Walked s ws (p + 1) (replicate m e) a → (a .fault ≡ 0 → ⊥) → Walked s ws at qs a
+        loop-stop-below t n = loop-stop (above t) n
+
+        pub loop-next-below : {a : Step} → Walked s ws (p + 1) (replicate m e) a → a .fault ≡ 0 → Rest s ws at qs (a .next) (replicate (k - 1) q)
+        loop-next-below t o = loop-next (above t) o
+
+        -- it is the last one, and its children are left
+        pub loop-down : k - 1 ≡ 0 → Rest s ws at qs (p + 1) (replicate m e)
+        loop-down o = record { whole = λ u. h .whole (walked-as (first-split q k some ∙ ap (λ (n : ℕ). (q ∷ []) ++ replicate n q) o) (above u)) }

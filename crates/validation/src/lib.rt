@@ -1,6 +1,5 @@
 // Validation: refusals 1 to 6 of a module's words. Reads the words, writes nothing.
 ghost use mathlib.Core.Path.{_≡_};
-ghost use mathlib.Core.List.{[], _∷_};
 ghost use Prim.Native.Nat.{_+_, _-_, _≤_};
 ghost use lib.ListN.{replicate, getD};
 ghost use Rattle.words.specs.Word.{kindOf};
@@ -63,6 +62,7 @@ fn records(ws: &[u32], at: usize, s: u32, category: u8, context: u32, left: u32,
     requires { ⌜ left ≤ maxDepth ⌝ }
     ensures { λ r. ⌜ Walked s (now (ws .entry)) at (replicate n (place (slot category context) (maxDepth + 1 - left))) r ⌝ }
 {
+    // Of the k records that are left, from p on: category, context and levels.
     let mut p = at;
     let mut c = category;
     let mut x = context;
@@ -73,18 +73,18 @@ fn records(ws: &[u32], at: usize, s: u32, category: u8, context: u32, left: u32,
             return Step { fault: 2, next: p };
         }
         let w = ws[p];
+        let f = grammar::fault(s, c, x, l, w);
+        if f != 0 {
+            return Step { fault: f, next: p };
+        }
         if words::kind_bit(PLAIN_KINDS, w) == 0 {
-            let a = one_record(ws, p, s, c, x, l);
+            let a = nested(ws, p, s, c, x, l);
             if a.fault != 0 {
                 return a;
             }
             p = a.next;
             k -= 1;
             continue;
-        }
-        let f = grammar::fault(s, c, x, l, w);
-        if f != 0 {
-            return Step { fault: f, next: p };
         }
         p += 1;
         k -= 1;
@@ -108,18 +108,11 @@ fn records(ws: &[u32], at: usize, s: u32, category: u8, context: u32, left: u32,
     Step { fault: 0, next: p }
 }
 
-// One record.
-fn one_record(ws: &[u32], at: usize, s: u32, category: u8, context: u32, left: u32) -> Step
-    requires { ⌜ left ≤ maxDepth ⌝ }
-    ensures { λ r. ⌜ Walked s (now (ws .entry)) at (place (slot category context) (maxDepth + 1 - left) ∷ []) r ⌝ }
+// What stands below a record whose own word has no fault, by its category.
+fn nested(ws: &[u32], at: usize, s: u32, category: u8, context: u32, left: u32) -> Step
+    requires { ⌜ Here s (now ws) at (place (slot category context) (maxDepth + 1 - left)) × (left ≤ maxDepth) ⌝ }
+    ensures { λ r. ⌜ Walked s (now (ws .entry)) (at + 1) (belowAt (place (slot category context) (maxDepth + 1 - left)) (getD (now (ws .entry)) at 0)) r ⌝ }
 {
-    if ws.len() <= at {
-        return Step { fault: 2, next: at };
-    }
-    let f = grammar::fault(s, category, context, left, ws[at]);
-    if f != 0 {
-        return Step { fault: f, next: at };
-    }
     if category == grammar::STATEMENT {
         return statement(ws, at, s, context, left);
     }
@@ -135,7 +128,7 @@ fn one_record(ws: &[u32], at: usize, s: u32, category: u8, context: u32, left: u
     other(ws, at, s, category, context, left)
 }
 
-// What stands below a statement whose own word has no fault; in the same way below an expression, a class, an element of a class, any other record.
+// The same of a statement, an expression, a class, an element of a class, any other record.
 fn statement(ws: &[u32], at: usize, s: u32, context: u32, left: u32) -> Step
     requires { ⌜ Here s (now ws) at (place (slot Statement context) (maxDepth + 1 - left)) × (left ≤ maxDepth) ⌝ }
     ensures { λ r. ⌜ Walked s (now (ws .entry)) (at + 1) (belowAt (place (slot Statement context) (maxDepth + 1 - left)) (getD (now (ws .entry)) at 0)) r ⌝ }
@@ -476,13 +469,14 @@ pub fn validate(ws: &[u32]) -> Verdict
         return Verdict::BadLength;
     }
     let s = symbol_count(ws);
-    let r = one_record(
+    let r = records(
         ws,
         0,
         s,
         grammar::MODULE,
         grammar::PLAIN,
         grammar::MAX_DEPTH,
+        1,
     );
     let f = r.fault;
     if f != 0 {

@@ -1,4 +1,4 @@
--- `gingerpost_rewrite`: the early return is refusal 1; behind the call, `Called` has all that the rest follows from.
+-- `gingerpost_rewrite`: the first return is refusal 1; behind the call, `Called` has all that refusal 8 and the rest follow from.
 use Rattle.host.specs.EntryLaws.{Called, good-length, answer-bad, refused-number, refused-lent, called-8, called-answer, called-fields, called-within, called-length, called-room, called-lent, called-demand, rewriting-called}
 use Rattle.host.specs.Entry.{numberOf, answerIn, rewriteBytes, rewriteBytesLent}
 use Rattle.host.specs.Bytes.{wordsOfBytes, bytesOfWords}

@@ -6,38 +6,38 @@ use lib.ListN.{replicate, getD}
 use borrow.Author.Needs.{needs}
 use borrow.Fn.Kinds.{In}
 use borrow.Fn.PlainCycle.{Measures, is, falls, and}
-use Rattle.validation.specs.Walks.{walked-end, walked-fault, walked-none, walked-stop, walked-then, walked-last, walked-as, here-depth, here-as, plain, loop-done, loop-stop, loop-next, loop-depth, loop-leaf, loop-stop-below, loop-next-below, loop-down, one-walked, block-children, class-statement-children, class-expression-children, function-children, class-children, method-children, static-block-children, decorators-children, body-children, parameters-children, parameter-children, code-children, module-children, leaf-children, statement-children, expression-children, field-children}
+use Rattle.validation.specs.Walks.{walked-end, walked-fault, walked-none, walked-stop, walked-then, walked-last, walked-as, here-depth, here-as, nested-as, plain, loop-done, loop-stop, loop-here, loop-depth, loop-stop-nested, loop-next-nested, loop-leaf, loop-stop-below, loop-next-below, loop-down, block-children, class-statement-children, class-expression-children, function-children, class-children, method-children, static-block-children, decorators-children, body-children, parameters-children, parameter-children, code-children, module-children, leaf-children, statement-children, expression-children, field-children}
 use Rattle.validation.specs.Walked.{Walked, Here, Rest}
 use Rattle.words.specs.Word.{kindOf, payloadOf, children-le, payload-lt}
 use Rattle.grammar.specs.Scan.{place}
 use Rattle.grammar.specs.Grammar.{slot}
 use Rattle.grammar.specs.Limits.{maxDepth}
-use Rattle.validation.proofs.+class+element+expression+method+one_record+other+records+statement.{statement}
-use Rattle.validation.proofs.+class+element+expression+method+one_record+other+records+statement.Tie.{close}
+use Rattle.validation.proofs.+class+element+expression+method+nested+other+records+statement.{statement}
+use Rattle.validation.proofs.+class+element+expression+method+nested+other+records+statement.Tie.{close}
 use Rattle.validation.proofs.class.Reads as class
 use Rattle.validation.proofs.class.Kinds as class-kinds
-use Rattle.validation.proofs.+class+element+expression+method+one_record+other+records+statement.Lts-class as class-lts
+use Rattle.validation.proofs.+class+element+expression+method+nested+other+records+statement.Lts-class as class-lts
 use Rattle.validation.proofs.element.Reads as element
 use Rattle.validation.proofs.element.Kinds as element-kinds
-use Rattle.validation.proofs.+class+element+expression+method+one_record+other+records+statement.Lts-element as element-lts
+use Rattle.validation.proofs.+class+element+expression+method+nested+other+records+statement.Lts-element as element-lts
 use Rattle.validation.proofs.expression.Reads as expression
 use Rattle.validation.proofs.expression.Kinds as expression-kinds
-use Rattle.validation.proofs.+class+element+expression+method+one_record+other+records+statement.Lts-expression as expression-lts
+use Rattle.validation.proofs.+class+element+expression+method+nested+other+records+statement.Lts-expression as expression-lts
 use Rattle.validation.proofs.method.Reads as method
 use Rattle.validation.proofs.method.Kinds as method-kinds
-use Rattle.validation.proofs.+class+element+expression+method+one_record+other+records+statement.Lts-method as method-lts
-use Rattle.validation.proofs.one_record.Reads as one-record
-use Rattle.validation.proofs.one_record.Kinds as one-record-kinds
-use Rattle.validation.proofs.+class+element+expression+method+one_record+other+records+statement.Lts-one_record as one-record-lts
+use Rattle.validation.proofs.+class+element+expression+method+nested+other+records+statement.Lts-method as method-lts
+use Rattle.validation.proofs.nested.Reads as nested
+use Rattle.validation.proofs.nested.Kinds as nested-kinds
+use Rattle.validation.proofs.+class+element+expression+method+nested+other+records+statement.Lts-nested as nested-lts
 use Rattle.validation.proofs.other.Reads as other
 use Rattle.validation.proofs.other.Kinds as other-kinds
-use Rattle.validation.proofs.+class+element+expression+method+one_record+other+records+statement.Lts-other as other-lts
+use Rattle.validation.proofs.+class+element+expression+method+nested+other+records+statement.Lts-other as other-lts
 use Rattle.validation.proofs.records.Reads as records
 use Rattle.validation.proofs.records.Kinds as records-kinds
-use Rattle.validation.proofs.+class+element+expression+method+one_record+other+records+statement.Lts-records as records-lts
+use Rattle.validation.proofs.+class+element+expression+method+nested+other+records+statement.Lts-records as records-lts
 use Rattle.validation.proofs.statement.Reads as statement′
 use Rattle.validation.proofs.statement.Kinds as statement-kinds
-use Rattle.validation.proofs.+class+element+expression+method+one_record+other+records+statement.Lts-statement as statement-lts
+use Rattle.validation.proofs.+class+element+expression+method+nested+other+records+statement.Lts-statement as statement-lts
 use Rattle.grammar.proofs.fault.Reads as fault-reads
 use Rattle.words.proofs.child_count.Reads as child-count-reads
 use Rattle.words.proofs.kind_bit.Reads as kind-bit-reads
@@ -56,8 +56,8 @@ abbrev μ-expression : Measures 1 expression-kinds.ps ℕ
 abbrev μ-method : Measures 1 method-kinds.ps ℕ
 μ-method κs a = 4 * (a .1 .1 .1 .1 .0)
 
-abbrev μ-one-record : Measures 1 one-record-kinds.ps ℕ
-μ-one-record κs a = 4 * (a .1 .1 .1 .1 .1 .0) + 2
+abbrev μ-nested : Measures 1 nested-kinds.ps ℕ
+μ-nested κs a = 4 * (a .1 .1 .1 .1 .1 .0) + 2
 
 abbrev μ-other : Measures 1 other-kinds.ps ℕ
 μ-other κs a = 4 * (a .1 .1 .1 .1 .1 .0)
@@ -94,13 +94,13 @@ method-at t = and 1 method-kinds.ps (is 1 method-kinds.ps μ-method t) method.Pr
 abbrev method-below : ℕ → In 1 method-kinds.ps
 method-below t = and 1 method-kinds.ps (falls 1 method-kinds.ps _<_ μ-method t) method.Pre
 
-abbrev one-record-at : ℕ → In 1 one-record-kinds.ps
-one-record-at t =
-    and 1 one-record-kinds.ps (is 1 one-record-kinds.ps μ-one-record t) one-record.Pre
+abbrev nested-at : ℕ → In 1 nested-kinds.ps
+nested-at t =
+    and 1 nested-kinds.ps (is 1 nested-kinds.ps μ-nested t) nested.Pre
 
-abbrev one-record-below : ℕ → In 1 one-record-kinds.ps
-one-record-below t =
-    and 1 one-record-kinds.ps (falls 1 one-record-kinds.ps _<_ μ-one-record t) one-record.Pre
+abbrev nested-below : ℕ → In 1 nested-kinds.ps
+nested-below t =
+    and 1 nested-kinds.ps (falls 1 nested-kinds.ps _<_ μ-nested t) nested.Pre
 
 abbrev other-at : ℕ → In 1 other-kinds.ps
 other-at t = and 1 other-kinds.ps (is 1 other-kinds.ps μ-other t) other.Pre
@@ -133,14 +133,14 @@ expression-uses t = (kind-of-reads.Asked, kind-of-reads.Learnt, records-below t,
 abbrev method-uses : ℕ → method-lts.Claims
 method-uses t = (payload-of-reads.Asked, payload-of-reads.Learnt, records-below t, records.Post)
 
-abbrev one-record-uses : ℕ → one-record-lts.Claims
-one-record-uses t = (fault-reads.Asked, fault-reads.Learnt, statement-below t, statement′.Post, expression-below t, expression.Post, class-below t, class.Post, element-below t, element.Post, other-below t, other.Post)
+abbrev nested-uses : ℕ → nested-lts.Claims
+nested-uses t = (statement-below t, statement′.Post, expression-below t, expression.Post, class-below t, class.Post, element-below t, element.Post, other-below t, other.Post)
 
 abbrev other-uses : ℕ → other-lts.Claims
 other-uses t = (payload-of-reads.Asked, payload-of-reads.Learnt, records-below t, records.Post)
 
 abbrev records-uses : ℕ → records-lts.Claims
-records-uses t = (kind-bit-reads.Asked, kind-bit-reads.Learnt, one-record-below t, one-record.Post, fault-reads.Asked, fault-reads.Learnt, child-count-reads.Asked, child-count-reads.Learnt, records-below t, records.Post)
+records-uses t = (fault-reads.Asked, fault-reads.Learnt, kind-bit-reads.Asked, kind-bit-reads.Learnt, nested-below t, nested.Post, child-count-reads.Asked, child-count-reads.Learnt, records-below t, records.Post)
 
 abbrev statement-uses : ℕ → statement-lts.Claims
 statement-uses t = (kind-of-reads.Asked, kind-of-reads.Learnt, payload-of-reads.Asked, payload-of-reads.Learnt, records-below t, records.Post, child-count-reads.Asked, child-count-reads.Learnt)
@@ -454,65 +454,35 @@ method-records-requires-4 t c κs =
 method-returns-4 : (t : ℕ) → method-lts.Need-returns-4 (method-uses t) (method-at t) method.Post
 method-returns-4 t c = walked-as (method-children 9 (c .before .before .before .before .before .before .before .before .before .before .before .before .before .args .context) (c .before .before .before .before .before .before .before .before .before .before .before .before .before .args .left) (c .before .before .before .before .before .before .before .before .before .before .before .before .before .pre .1 .0) (c .before .before .before .before .before .before .before .before .before .before .before .before .before .pre .1 .2) (c .before .before .before .before .before .before .before .before .before .before .payload-of .ensures) (c .before .before .before .before .before .before .before .before .before .before .before .before .before .pre .1 .1)) (walked-then _ _ (c .before .before .before .before .before .before .before .before .before .records .ensures) (c .before .before .before .before .before .before .before .if1 .left) (walked-then _ _ (c .before .before .before .before .before .before .records2 .ensures) (c .before .before .before .before .if2 .left) (walked-then _ _ (c .before .before .before .records3 .ensures) (c .before .if3 .left) (walked-last (c .records4 .ensures)))))
 
-one-record-returns : (t : ℕ) → one-record-lts.Need-returns (one-record-uses t) (one-record-at t) one-record.Post
-one-record-returns t c = walked-end _ (c .if1 .taken)
+nested-statement-requires : (t : ℕ) → nested-lts.Need-statement-requires (nested-uses t) (nested-at t) nested.Post
+nested-statement-requires t c κs = (omega (arith, c .before .before .pre .0), (here-as (c .before .before .args .at) (c .before .before .args .category) (c .before .before .args .context) (maxDepth + 1 - c .before .before .args .left) 3 (c .if1 .taken) (c .before .before .pre .1 .0), c .before .before .pre .1 .1))
 
-one-record-mul-fault : (t : ℕ) → one-record-lts.Need-mul-fault (one-record-uses t) (one-record-at t) one-record.Post
-one-record-mul-fault t c = search needs
+nested-returns : (t : ℕ) → nested-lts.Need-returns (nested-uses t) (nested-at t) nested.Post
+nested-returns t c = nested-as (c .before .before .before .args .at) (c .before .before .before .args .category) (c .before .before .before .args .context) (maxDepth + 1 - c .before .before .before .args .left) 3 (c .before .if1 .taken) (c .statement .ensures)
 
-one-record-shared-slice-read-fault : (t : ℕ) → one-record-lts.Need-shared-slice-read-fault (one-record-uses t) (one-record-at t) one-record.Post
-one-record-shared-slice-read-fault t c = search needs
+nested-expression-requires : (t : ℕ) → nested-lts.Need-expression-requires (nested-uses t) (nested-at t) nested.Post
+nested-expression-requires t c κs = (omega (arith, c .before .before .before .pre .0), (here-as (c .before .before .before .args .at) (c .before .before .before .args .category) (c .before .before .before .args .context) (maxDepth + 1 - c .before .before .before .args .left) 4 (c .if2 .taken) (c .before .before .before .pre .1 .0), c .before .before .before .pre .1 .1))
 
-one-record-fault-requires : (t : ℕ) → one-record-lts.Need-fault-requires (one-record-uses t) (one-record-at t) one-record.Post
-one-record-fault-requires t c κs = search needs
+nested-returns-2 : (t : ℕ) → nested-lts.Need-returns-2 (nested-uses t) (nested-at t) nested.Post
+nested-returns-2 t c = nested-as (c .before .before .before .before .args .at) (c .before .before .before .before .args .category) (c .before .before .before .before .args .context) (maxDepth + 1 - c .before .before .before .before .args .left) 4 (c .before .if2 .taken) (c .expression .ensures)
 
-one-record-returns-2 : (t : ℕ) → one-record-lts.Need-returns-2 (one-record-uses t) (one-record-at t) one-record.Post
-one-record-returns-2 t c = walked-fault _ (c .before .fault .result) (c .before .before .before .if1 .left) (c .before .fault .ensures) (c .if2 .taken)
+nested-class-requires : (t : ℕ) → nested-lts.Need-class-requires (nested-uses t) (nested-at t) nested.Post
+nested-class-requires t c κs = (omega (arith, c .before .before .before .before .pre .0), (here-as (c .before .before .before .before .args .at) (c .before .before .before .before .args .category) (c .before .before .before .before .args .context) (maxDepth + 1 - c .before .before .before .before .args .left) 5 (c .if3 .taken) (c .before .before .before .before .pre .1 .0), c .before .before .before .before .pre .1 .1))
 
-one-record-statement-requires : (t : ℕ) → one-record-lts.Need-statement-requires (one-record-uses t) (one-record-at t) one-record.Post
-one-record-statement-requires t c κs =
-    let h : Here (c .before .before .before .before .before .before .args .s) (c .before .before .before .before .before .before .args .ws .now) (c .before .before .before .before .before .before .args .at) (place (slot 3 (c .before .before .before .before .before .before .args .context)) (maxDepth + 1 - c .before .before .before .before .before .before .args .left)) = here-as (c .before .before .before .before .before .before .args .category) (c .before .before .before .before .before .before .args .context) (maxDepth + 1 - c .before .before .before .before .before .before .args .left) 3 (c .before .before .fault .result) (c .if3 .taken) (c .before .before .before .before .if1 .left) (c .before .before .fault .ensures) (c .before .if2 .left) in
-    let d : maxDepth + 1 - c .before .before .before .before .before .before .args .left ≤ maxDepth = here-depth 3 (c .before .before .before .before .before .before .args .context) (maxDepth + 1 - c .before .before .before .before .before .before .args .left) h in
-    (omega (arith, c .before .before .before .before .before .before .pre .0), (h, c .before .before .before .before .before .before .pre .1))
+nested-returns-3 : (t : ℕ) → nested-lts.Need-returns-3 (nested-uses t) (nested-at t) nested.Post
+nested-returns-3 t c = nested-as (c .before .before .before .before .before .args .at) (c .before .before .before .before .before .args .category) (c .before .before .before .before .before .args .context) (maxDepth + 1 - c .before .before .before .before .before .args .left) 5 (c .before .if3 .taken) (c .class .ensures)
 
-one-record-returns-3 : (t : ℕ) → one-record-lts.Need-returns-3 (one-record-uses t) (one-record-at t) one-record.Post
-one-record-returns-3 t c = one-walked (c .before .before .before .before .before .before .before .args .category) (c .before .before .before .before .before .before .before .args .context) (maxDepth + 1 - c .before .before .before .before .before .before .before .args .left) 3 (c .before .before .before .fault .result) (c .before .if3 .taken) (c .before .before .before .before .before .if1 .left) (c .before .before .before .fault .ensures) (c .before .before .if2 .left) (c .statement .ensures)
+nested-element-requires : (t : ℕ) → nested-lts.Need-element-requires (nested-uses t) (nested-at t) nested.Post
+nested-element-requires t c κs = (omega (arith, c .before .before .before .before .before .pre .0), (here-as (c .before .before .before .before .before .args .at) (c .before .before .before .before .before .args .category) (c .before .before .before .before .before .args .context) (maxDepth + 1 - c .before .before .before .before .before .args .left) 9 (c .if4 .taken) (c .before .before .before .before .before .pre .1 .0), c .before .before .before .before .before .pre .1 .1))
 
-one-record-expression-requires : (t : ℕ) → one-record-lts.Need-expression-requires (one-record-uses t) (one-record-at t) one-record.Post
-one-record-expression-requires t c κs =
-    let h : Here (c .before .before .before .before .before .before .before .args .s) (c .before .before .before .before .before .before .before .args .ws .now) (c .before .before .before .before .before .before .before .args .at) (place (slot 4 (c .before .before .before .before .before .before .before .args .context)) (maxDepth + 1 - c .before .before .before .before .before .before .before .args .left)) = here-as (c .before .before .before .before .before .before .before .args .category) (c .before .before .before .before .before .before .before .args .context) (maxDepth + 1 - c .before .before .before .before .before .before .before .args .left) 4 (c .before .before .before .fault .result) (c .if4 .taken) (c .before .before .before .before .before .if1 .left) (c .before .before .before .fault .ensures) (c .before .before .if2 .left) in
-    let d : maxDepth + 1 - c .before .before .before .before .before .before .before .args .left ≤ maxDepth = here-depth 4 (c .before .before .before .before .before .before .before .args .context) (maxDepth + 1 - c .before .before .before .before .before .before .before .args .left) h in
-    (omega (arith, c .before .before .before .before .before .before .before .pre .0), (h, c .before .before .before .before .before .before .before .pre .1))
+nested-returns-4 : (t : ℕ) → nested-lts.Need-returns-4 (nested-uses t) (nested-at t) nested.Post
+nested-returns-4 t c = nested-as (c .before .before .before .before .before .before .args .at) (c .before .before .before .before .before .before .args .category) (c .before .before .before .before .before .before .args .context) (maxDepth + 1 - c .before .before .before .before .before .before .args .left) 9 (c .before .if4 .taken) (c .element .ensures)
 
-one-record-returns-4 : (t : ℕ) → one-record-lts.Need-returns-4 (one-record-uses t) (one-record-at t) one-record.Post
-one-record-returns-4 t c = one-walked (c .before .before .before .before .before .before .before .before .args .category) (c .before .before .before .before .before .before .before .before .args .context) (maxDepth + 1 - c .before .before .before .before .before .before .before .before .args .left) 4 (c .before .before .before .before .fault .result) (c .before .if4 .taken) (c .before .before .before .before .before .before .if1 .left) (c .before .before .before .before .fault .ensures) (c .before .before .before .if2 .left) (c .expression .ensures)
+nested-other-requires : (t : ℕ) → nested-lts.Need-other-requires (nested-uses t) (nested-at t) nested.Post
+nested-other-requires t c κs = (omega (arith, c .before .before .before .before .before .pre .0), (c .before .before .before .before .before .pre .1 .0, record { statement = c .before .before .before .if1 .left; expression = c .before .before .if2 .left; class = c .before .if3 .left; element = c .if4 .left }, c .before .before .before .before .before .pre .1 .1))
 
-one-record-class-requires : (t : ℕ) → one-record-lts.Need-class-requires (one-record-uses t) (one-record-at t) one-record.Post
-one-record-class-requires t c κs =
-    let h : Here (c .before .before .before .before .before .before .before .before .args .s) (c .before .before .before .before .before .before .before .before .args .ws .now) (c .before .before .before .before .before .before .before .before .args .at) (place (slot 5 (c .before .before .before .before .before .before .before .before .args .context)) (maxDepth + 1 - c .before .before .before .before .before .before .before .before .args .left)) = here-as (c .before .before .before .before .before .before .before .before .args .category) (c .before .before .before .before .before .before .before .before .args .context) (maxDepth + 1 - c .before .before .before .before .before .before .before .before .args .left) 5 (c .before .before .before .before .fault .result) (c .if5 .taken) (c .before .before .before .before .before .before .if1 .left) (c .before .before .before .before .fault .ensures) (c .before .before .before .if2 .left) in
-    let d : maxDepth + 1 - c .before .before .before .before .before .before .before .before .args .left ≤ maxDepth = here-depth 5 (c .before .before .before .before .before .before .before .before .args .context) (maxDepth + 1 - c .before .before .before .before .before .before .before .before .args .left) h in
-    (omega (arith, c .before .before .before .before .before .before .before .before .pre .0), (h, c .before .before .before .before .before .before .before .before .pre .1))
-
-one-record-returns-5 : (t : ℕ) → one-record-lts.Need-returns-5 (one-record-uses t) (one-record-at t) one-record.Post
-one-record-returns-5 t c = one-walked (c .before .before .before .before .before .before .before .before .before .args .category) (c .before .before .before .before .before .before .before .before .before .args .context) (maxDepth + 1 - c .before .before .before .before .before .before .before .before .before .args .left) 5 (c .before .before .before .before .before .fault .result) (c .before .if5 .taken) (c .before .before .before .before .before .before .before .if1 .left) (c .before .before .before .before .before .fault .ensures) (c .before .before .before .before .if2 .left) (c .class .ensures)
-
-one-record-element-requires : (t : ℕ) → one-record-lts.Need-element-requires (one-record-uses t) (one-record-at t) one-record.Post
-one-record-element-requires t c κs =
-    let h : Here (c .before .before .before .before .before .before .before .before .before .args .s) (c .before .before .before .before .before .before .before .before .before .args .ws .now) (c .before .before .before .before .before .before .before .before .before .args .at) (place (slot 9 (c .before .before .before .before .before .before .before .before .before .args .context)) (maxDepth + 1 - c .before .before .before .before .before .before .before .before .before .args .left)) = here-as (c .before .before .before .before .before .before .before .before .before .args .category) (c .before .before .before .before .before .before .before .before .before .args .context) (maxDepth + 1 - c .before .before .before .before .before .before .before .before .before .args .left) 9 (c .before .before .before .before .before .fault .result) (c .if6 .taken) (c .before .before .before .before .before .before .before .if1 .left) (c .before .before .before .before .before .fault .ensures) (c .before .before .before .before .if2 .left) in
-    let d : maxDepth + 1 - c .before .before .before .before .before .before .before .before .before .args .left ≤ maxDepth = here-depth 9 (c .before .before .before .before .before .before .before .before .before .args .context) (maxDepth + 1 - c .before .before .before .before .before .before .before .before .before .args .left) h in
-    (omega (arith, c .before .before .before .before .before .before .before .before .before .pre .0), (h, c .before .before .before .before .before .before .before .before .before .pre .1))
-
-one-record-returns-6 : (t : ℕ) → one-record-lts.Need-returns-6 (one-record-uses t) (one-record-at t) one-record.Post
-one-record-returns-6 t c = one-walked (c .before .before .before .before .before .before .before .before .before .before .args .category) (c .before .before .before .before .before .before .before .before .before .before .args .context) (maxDepth + 1 - c .before .before .before .before .before .before .before .before .before .before .args .left) 9 (c .before .before .before .before .before .before .fault .result) (c .before .if6 .taken) (c .before .before .before .before .before .before .before .before .if1 .left) (c .before .before .before .before .before .before .fault .ensures) (c .before .before .before .before .before .if2 .left) (c .element .ensures)
-
-one-record-other-requires : (t : ℕ) → one-record-lts.Need-other-requires (one-record-uses t) (one-record-at t) one-record.Post
-one-record-other-requires t c κs =
-    let h : Here (c .before .before .before .before .before .before .before .before .before .args .s) (c .before .before .before .before .before .before .before .before .before .args .ws .now) (c .before .before .before .before .before .before .before .before .before .args .at) (place (slot (c .before .before .before .before .before .before .before .before .before .args .category) (c .before .before .before .before .before .before .before .before .before .args .context)) (maxDepth + 1 - c .before .before .before .before .before .before .before .before .before .args .left)) = here-as (c .before .before .before .before .before .before .before .before .before .args .category) (c .before .before .before .before .before .before .before .before .before .args .context) (maxDepth + 1 - c .before .before .before .before .before .before .before .before .before .args .left) (c .before .before .before .before .before .before .before .before .before .args .category) (c .before .before .before .before .before .fault .result) refl (c .before .before .before .before .before .before .before .if1 .left) (c .before .before .before .before .before .fault .ensures) (c .before .before .before .before .if2 .left) in
-    let d : maxDepth + 1 - c .before .before .before .before .before .before .before .before .before .args .left ≤ maxDepth = here-depth (c .before .before .before .before .before .before .before .before .before .args .category) (c .before .before .before .before .before .before .before .before .before .args .context) (maxDepth + 1 - c .before .before .before .before .before .before .before .before .before .args .left) h in
-    (omega (arith, c .before .before .before .before .before .before .before .before .before .pre .0), (h, record { statement = c .before .before .before .if3 .left; expression = c .before .before .if4 .left; class = c .before .if5 .left; element = c .if6 .left }, c .before .before .before .before .before .before .before .before .before .pre .1))
-
-one-record-returns-7 : (t : ℕ) → one-record-lts.Need-returns-7 (one-record-uses t) (one-record-at t) one-record.Post
-one-record-returns-7 t c = one-walked (c .before .before .before .before .before .before .before .before .before .before .args .category) (c .before .before .before .before .before .before .before .before .before .before .args .context) (maxDepth + 1 - c .before .before .before .before .before .before .before .before .before .before .args .left) (c .before .before .before .before .before .before .before .before .before .before .args .category) (c .before .before .before .before .before .before .fault .result) refl (c .before .before .before .before .before .before .before .before .if1 .left) (c .before .before .before .before .before .before .fault .ensures) (c .before .before .before .before .before .if2 .left) (c .other .ensures)
+nested-returns-5 : (t : ℕ) → nested-lts.Need-returns-5 (nested-uses t) (nested-at t) nested.Post
+nested-returns-5 t c = c .other .ensures
 
 other-mul-payload-of : (t : ℕ) → other-lts.Need-mul-payload-of (other-uses t) (other-at t) other.Post
 other-mul-payload-of t c = search needs
@@ -684,29 +654,29 @@ records-mul-w t c = search needs
 records-shared-slice-read-w : (t : ℕ) → records-lts.Need-shared-slice-read-w (records-uses t) (records-at t) records.Post records-Inv-loop records-μ-loop
 records-shared-slice-read-w t c = search needs
 
-records-kind-bit-requires : (t : ℕ) → records-lts.Need-kind-bit-requires (records-uses t) (records-at t) records.Post records-Inv-loop records-μ-loop
-records-kind-bit-requires t c κs = search needs
-
-records-one-record-requires : (t : ℕ) → records-lts.Need-one-record-requires (records-uses t) (records-at t) records.Post records-Inv-loop records-μ-loop
-records-one-record-requires t c κs = (omega (arith, c .before .before .before .before .before .before .before .pre .0, c .before .before .before .before .before .loop .inv .0), omega (arith, c .before .before .before .before .before .loop .inv .0, c .before .before .before .before .before .before .before .pre .1))
-
-records-returns-2 : (t : ℕ) → records-lts.Need-returns-2 (records-uses t) (records-at t) records.Post records-Inv-loop records-μ-loop
-records-returns-2 t c = loop-stop (c .before .before .before .before .before .before .before .before .loop .c) (c .before .before .before .before .before .before .before .before .loop .x) (c .before .before .before .before .before .before .before .before .loop .l) (c .before .before .before .before .before .before .before .before .loop .k) (c .before .before .before .before .before .before .before .before .loop .inv .1) (c .before .before .before .before .before .before .before .loop-test .taken) (c .before .before .one-record .ensures) (c .if3 .taken)
-
-records-sub-k : (t : ℕ) → records-lts.Need-sub-k (records-uses t) (records-at t) records.Post records-Inv-loop records-μ-loop
-records-sub-k t c = omega (arith, c .before .before .before .before .before .before .before .loop-test .taken)
-
-records-loop-less : (t : ℕ) → records-lts.Need-loop-less (records-uses t) (records-at t) records.Post records-Inv-loop records-μ-loop
-records-loop-less t c = omega (arith, c .before .before .before .before .before .before .before .loop-test .taken)
-
-records-loop-again : (t : ℕ) → records-lts.Need-loop-again (records-uses t) (records-at t) records.Post records-Inv-loop records-μ-loop
-records-loop-again t c = (c .before .before .before .before .before .before .before .before .loop .inv .0, loop-next (c .before .before .before .before .before .before .before .before .loop .c) (c .before .before .before .before .before .before .before .before .loop .x) (c .before .before .before .before .before .before .before .before .loop .l) (c .before .before .before .before .before .before .before .before .loop .k) (c .before .before .before .before .before .before .before .before .loop .inv .1) (c .before .before .before .before .before .before .before .loop-test .taken) (c .before .before .one-record .ensures) (c .if3 .left))
-
 records-fault-requires : (t : ℕ) → records-lts.Need-fault-requires (records-uses t) (records-at t) records.Post records-Inv-loop records-μ-loop
 records-fault-requires t c κs = search needs
 
+records-returns-2 : (t : ℕ) → records-lts.Need-returns-2 (records-uses t) (records-at t) records.Post records-Inv-loop records-μ-loop
+records-returns-2 t c = loop-stop (c .before .before .before .before .before .loop .c) (c .before .before .before .before .before .loop .x) (c .before .before .before .before .before .loop .l) (c .before .before .before .before .before .loop .k) (c .before .before .before .before .before .loop .inv .1) (c .before .before .before .before .loop-test .taken) (walked-fault _ (c .before .fault .result) (c .before .before .before .if1 .left) (c .before .fault .ensures) (c .if2 .taken)) (c .if2 .taken)
+
+records-kind-bit-requires : (t : ℕ) → records-lts.Need-kind-bit-requires (records-uses t) (records-at t) records.Post records-Inv-loop records-μ-loop
+records-kind-bit-requires t c κs = search needs
+
+records-nested-requires : (t : ℕ) → records-lts.Need-nested-requires (records-uses t) (records-at t) records.Post records-Inv-loop records-μ-loop
+records-nested-requires t c κs = (omega (arith, c .before .before .before .before .before .before .before .before .before .pre .0, c .before .before .before .before .before .before .before .loop .inv .0), (loop-here (c .before .before .before .before .before .before .before .loop .c) (c .before .before .before .before .before .before .before .loop .x) (c .before .before .before .before .before .before .before .loop .l) (c .before .before .before .before .before .before .before .loop .k) (c .before .before .before .before .before .before .before .loop .inv .1) (c .before .before .before .before .before .before .loop-test .taken) (c .before .before .before .fault .result) (c .before .before .before .before .before .if1 .left) (c .before .before .before .fault .ensures) (c .before .before .if2 .left), omega (arith, c .before .before .before .before .before .before .before .loop .inv .0, c .before .before .before .before .before .before .before .before .before .pre .1)))
+
 records-returns-3 : (t : ℕ) → records-lts.Need-returns-3 (records-uses t) (records-at t) records.Post records-Inv-loop records-μ-loop
-records-returns-3 t c = loop-stop (c .before .before .before .before .before .before .before .loop .c) (c .before .before .before .before .before .before .before .loop .x) (c .before .before .before .before .before .before .before .loop .l) (c .before .before .before .before .before .before .before .loop .k) (c .before .before .before .before .before .before .before .loop .inv .1) (c .before .before .before .before .before .before .loop-test .taken) (walked-fault _ (c .before .fault .result) (c .before .before .before .before .before .if1 .left) (c .before .fault .ensures) (c .if4 .taken)) (c .if4 .taken)
+records-returns-3 t c = loop-stop-nested (c .before .before .before .before .before .before .before .before .before .before .loop .c) (c .before .before .before .before .before .before .before .before .before .before .loop .x) (c .before .before .before .before .before .before .before .before .before .before .loop .l) (c .before .before .before .before .before .before .before .before .before .before .loop .k) (c .before .before .before .before .before .before .before .before .before .before .loop .inv .1) (c .before .before .before .before .before .before .before .before .before .loop-test .taken) (c .before .before .before .before .before .before .fault .result) (c .before .before .before .before .before .before .before .before .if1 .left) (c .before .before .before .before .before .before .fault .ensures) (c .before .before .before .before .before .if2 .left) (c .before .before .nested .ensures) (c .if4 .taken)
+
+records-sub-k : (t : ℕ) → records-lts.Need-sub-k (records-uses t) (records-at t) records.Post records-Inv-loop records-μ-loop
+records-sub-k t c = omega (arith, c .before .before .before .before .before .before .before .before .before .loop-test .taken)
+
+records-loop-less : (t : ℕ) → records-lts.Need-loop-less (records-uses t) (records-at t) records.Post records-Inv-loop records-μ-loop
+records-loop-less t c = omega (arith, c .before .before .before .before .before .before .before .before .before .loop-test .taken)
+
+records-loop-again : (t : ℕ) → records-lts.Need-loop-again (records-uses t) (records-at t) records.Post records-Inv-loop records-μ-loop
+records-loop-again t c = (c .before .before .before .before .before .before .before .before .before .before .loop .inv .0, loop-next-nested (c .before .before .before .before .before .before .before .before .before .before .loop .c) (c .before .before .before .before .before .before .before .before .before .before .loop .x) (c .before .before .before .before .before .before .before .before .before .before .loop .l) (c .before .before .before .before .before .before .before .before .before .before .loop .k) (c .before .before .before .before .before .before .before .before .before .before .loop .inv .1) (c .before .before .before .before .before .before .before .before .before .loop-test .taken) (c .before .before .before .before .before .before .fault .result) (c .before .before .before .before .before .before .before .before .if1 .left) (c .before .before .before .before .before .before .fault .ensures) (c .before .before .before .before .before .if2 .left) (c .before .before .nested .ensures) (c .if4 .left))
 
 records-add-p : (t : ℕ) → records-lts.Need-add-p (records-uses t) (records-at t) records.Post records-Inv-loop records-μ-loop
 records-add-p t c = omega (arith, c .before .before .before .before .before .if1 .left)
@@ -727,27 +697,23 @@ records-loop-again-2 : (t : ℕ) → records-lts.Need-loop-again-2 (records-uses
 unfolding plain
 records-loop-again-2 t c =
     let le : c .before .before .before .before .before .before .before .before .before .loop .l ≤ maxDepth = omega (arith, c .before .before .before .before .before .before .before .before .before .loop .inv .0, c .before .before .before .before .before .before .before .before .before .before .before .pre .1) in
-    (c .before .before .before .before .before .before .before .before .before .loop .inv .0, loop-leaf (c .before .before .before .before .before .before .before .before .before .loop .c) (c .before .before .before .before .before .before .before .before .before .loop .x) (c .before .before .before .before .before .before .before .before .before .loop .l) (c .before .before .before .before .before .before .before .before .before .loop .k) (c .before .before .before .before .before .before .before .before .before .loop .inv .1) (c .before .before .before .before .before .before .before .before .loop-test .taken) (c .before .before .before .fault .result) (c .before .child-count .result) le (c .before .before .before .before .before .before .before .if1 .left) (c .before .before .before .fault .ensures) (c .before .before .if4 .left) (λ z. c .before .before .before .before .if2 .left (c .before .before .before .before .before .kind-bit .ensures .0 ∙ z)) (c .before .child-count .ensures) (c .if5 .taken))
+    (c .before .before .before .before .before .before .before .before .before .loop .inv .0, loop-leaf (c .before .before .before .before .before .before .before .before .before .loop .c) (c .before .before .before .before .before .before .before .before .before .loop .x) (c .before .before .before .before .before .before .before .before .before .loop .l) (c .before .before .before .before .before .before .before .before .before .loop .k) (c .before .before .before .before .before .before .before .before .before .loop .inv .1) (c .before .before .before .before .before .before .before .before .loop-test .taken) (c .before .before .before .before .before .fault .result) (c .before .before .before .before .before .before .before .if1 .left) (c .before .before .before .before .before .fault .ensures) (c .before .before .before .before .if2 .left) (c .before .child-count .result) le (λ z. c .before .before .if3 .left (c .before .before .before .kind-bit .ensures .0 ∙ z)) (c .before .child-count .ensures) (c .if5 .taken))
 
 records-sub-records : (t : ℕ) → records-lts.Need-sub-records (records-uses t) (records-at t) records.Post records-Inv-loop records-μ-loop
-unfolding plain
 records-sub-records t c =
-    let le : c .before .before .before .before .before .before .before .before .before .before .loop .l ≤ maxDepth = omega (arith, c .before .before .before .before .before .before .before .before .before .before .loop .inv .0, c .before .before .before .before .before .before .before .before .before .before .before .before .pre .1) in
-    let d = loop-depth (c .before .before .before .before .before .before .before .before .before .before .loop .c) (c .before .before .before .before .before .before .before .before .before .before .loop .x) (c .before .before .before .before .before .before .before .before .before .before .loop .l) (c .before .before .before .before .before .before .before .before .before .before .loop .k) (c .before .before .before .before .before .before .before .before .before .before .loop .inv .1) (c .before .before .before .before .before .before .before .before .before .loop-test .taken) (c .before .before .before .before .fault .result) (c .before .before .child-count .result) le (c .before .before .before .before .before .before .before .before .if1 .left) (c .before .before .before .before .fault .ensures) (c .before .before .before .if4 .left) (λ z. c .before .before .before .before .before .if2 .left (c .before .before .before .before .before .before .kind-bit .ensures .0 ∙ z)) (c .before .before .child-count .ensures) in
+    let d = loop-depth (c .before .before .before .before .before .before .before .before .before .before .loop .c) (c .before .before .before .before .before .before .before .before .before .before .loop .x) (c .before .before .before .before .before .before .before .before .before .before .loop .l) (c .before .before .before .before .before .before .before .before .before .before .loop .k) (c .before .before .before .before .before .before .before .before .before .before .loop .inv .1) (c .before .before .before .before .before .before .before .before .before .loop-test .taken) (c .before .before .before .before .before .before .fault .result) (c .before .before .before .before .before .before .before .before .if1 .left) (c .before .before .before .before .before .before .fault .ensures) (c .before .before .before .before .before .if2 .left) in
     omega arith
 
 records-records-requires : (t : ℕ) → records-lts.Need-records-requires (records-uses t) (records-at t) records.Post records-Inv-loop records-μ-loop
-unfolding plain
 records-records-requires t c κs =
-    let le : c .before .before .before .before .before .before .before .before .before .before .loop .l ≤ maxDepth = omega (arith, c .before .before .before .before .before .before .before .before .before .before .loop .inv .0, c .before .before .before .before .before .before .before .before .before .before .before .before .pre .1) in
-    let d = loop-depth (c .before .before .before .before .before .before .before .before .before .before .loop .c) (c .before .before .before .before .before .before .before .before .before .before .loop .x) (c .before .before .before .before .before .before .before .before .before .before .loop .l) (c .before .before .before .before .before .before .before .before .before .before .loop .k) (c .before .before .before .before .before .before .before .before .before .before .loop .inv .1) (c .before .before .before .before .before .before .before .before .before .loop-test .taken) (c .before .before .before .before .fault .result) (c .before .before .child-count .result) le (c .before .before .before .before .before .before .before .before .if1 .left) (c .before .before .before .before .fault .ensures) (c .before .before .before .if4 .left) (λ z. c .before .before .before .before .before .if2 .left (c .before .before .before .before .before .before .kind-bit .ensures .0 ∙ z)) (c .before .before .child-count .ensures) in
+    let d = loop-depth (c .before .before .before .before .before .before .before .before .before .before .loop .c) (c .before .before .before .before .before .before .before .before .before .before .loop .x) (c .before .before .before .before .before .before .before .before .before .before .loop .l) (c .before .before .before .before .before .before .before .before .before .before .loop .k) (c .before .before .before .before .before .before .before .before .before .before .loop .inv .1) (c .before .before .before .before .before .before .before .before .before .loop-test .taken) (c .before .before .before .before .before .before .fault .result) (c .before .before .before .before .before .before .before .before .if1 .left) (c .before .before .before .before .before .before .fault .ensures) (c .before .before .before .before .before .if2 .left) in
     (omega (arith, c .before .before .before .before .before .before .before .before .before .before .before .before .pre .0, c .before .before .before .before .before .before .before .before .before .before .loop .inv .0), omega (arith, c .before .before .before .before .before .before .before .before .before .before .before .before .pre .1, c .before .before .before .before .before .before .before .before .before .before .loop .inv .0))
 
 records-returns-4 : (t : ℕ) → records-lts.Need-returns-4 (records-uses t) (records-at t) records.Post records-Inv-loop records-μ-loop
 unfolding plain
 records-returns-4 t c =
     let le : c .before .before .before .before .before .before .before .before .before .before .before .before .before .loop .l ≤ maxDepth = omega (arith, c .before .before .before .before .before .before .before .before .before .before .before .before .before .loop .inv .0, c .before .before .before .before .before .before .before .before .before .before .before .before .before .before .before .pre .1) in
-    loop-stop-below (c .before .before .before .before .before .before .before .before .before .before .before .before .before .loop .c) (c .before .before .before .before .before .before .before .before .before .before .before .before .before .loop .x) (c .before .before .before .before .before .before .before .before .before .before .before .before .before .loop .l) (c .before .before .before .before .before .before .before .before .before .before .before .before .before .loop .k) (c .before .before .before .before .before .before .before .before .before .before .before .before .before .loop .inv .1) (c .before .before .before .before .before .before .before .before .before .before .before .before .loop-test .taken) (c .before .before .before .before .before .before .before .fault .result) (c .before .before .before .before .before .child-count .result) le (c .before .before .before .before .before .before .before .before .before .before .before .if1 .left) (c .before .before .before .before .before .before .before .fault .ensures) (c .before .before .before .before .before .before .if4 .left) (λ z. c .before .before .before .before .before .before .before .before .if2 .left (c .before .before .before .before .before .before .before .before .before .kind-bit .ensures .0 ∙ z)) (c .before .before .before .before .before .child-count .ensures) (c .before .before .records .ensures) (c .if7 .taken)
+    loop-stop-below (c .before .before .before .before .before .before .before .before .before .before .before .before .before .loop .c) (c .before .before .before .before .before .before .before .before .before .before .before .before .before .loop .x) (c .before .before .before .before .before .before .before .before .before .before .before .before .before .loop .l) (c .before .before .before .before .before .before .before .before .before .before .before .before .before .loop .k) (c .before .before .before .before .before .before .before .before .before .before .before .before .before .loop .inv .1) (c .before .before .before .before .before .before .before .before .before .before .before .before .loop-test .taken) (c .before .before .before .before .before .before .before .before .before .fault .result) (c .before .before .before .before .before .before .before .before .before .before .before .if1 .left) (c .before .before .before .before .before .before .before .before .before .fault .ensures) (c .before .before .before .before .before .before .before .before .if2 .left) (c .before .before .before .before .before .child-count .result) le (λ z. c .before .before .before .before .before .before .if3 .left (c .before .before .before .before .before .before .before .kind-bit .ensures .0 ∙ z)) (c .before .before .before .before .before .child-count .ensures) (c .before .before .records .ensures) (c .if7 .taken)
 
 records-loop-less-3 : (t : ℕ) → records-lts.Need-loop-less-3 (records-uses t) (records-at t) records.Post records-Inv-loop records-μ-loop
 records-loop-less-3 t c = omega (arith, c .before .before .before .before .before .before .before .before .before .before .before .before .loop-test .taken)
@@ -756,20 +722,16 @@ records-loop-again-3 : (t : ℕ) → records-lts.Need-loop-again-3 (records-uses
 unfolding plain
 records-loop-again-3 t c =
     let le : c .before .before .before .before .before .before .before .before .before .before .before .before .before .loop .l ≤ maxDepth = omega (arith, c .before .before .before .before .before .before .before .before .before .before .before .before .before .loop .inv .0, c .before .before .before .before .before .before .before .before .before .before .before .before .before .before .before .pre .1) in
-    (c .before .before .before .before .before .before .before .before .before .before .before .before .before .loop .inv .0, loop-next-below (c .before .before .before .before .before .before .before .before .before .before .before .before .before .loop .c) (c .before .before .before .before .before .before .before .before .before .before .before .before .before .loop .x) (c .before .before .before .before .before .before .before .before .before .before .before .before .before .loop .l) (c .before .before .before .before .before .before .before .before .before .before .before .before .before .loop .k) (c .before .before .before .before .before .before .before .before .before .before .before .before .before .loop .inv .1) (c .before .before .before .before .before .before .before .before .before .before .before .before .loop-test .taken) (c .before .before .before .before .before .before .before .fault .result) (c .before .before .before .before .before .child-count .result) le (c .before .before .before .before .before .before .before .before .before .before .before .if1 .left) (c .before .before .before .before .before .before .before .fault .ensures) (c .before .before .before .before .before .before .if4 .left) (λ z. c .before .before .before .before .before .before .before .before .if2 .left (c .before .before .before .before .before .before .before .before .before .kind-bit .ensures .0 ∙ z)) (c .before .before .before .before .before .child-count .ensures) (c .before .before .records .ensures) (c .if7 .left))
+    (c .before .before .before .before .before .before .before .before .before .before .before .before .before .loop .inv .0, loop-next-below (c .before .before .before .before .before .before .before .before .before .before .before .before .before .loop .c) (c .before .before .before .before .before .before .before .before .before .before .before .before .before .loop .x) (c .before .before .before .before .before .before .before .before .before .before .before .before .before .loop .l) (c .before .before .before .before .before .before .before .before .before .before .before .before .before .loop .k) (c .before .before .before .before .before .before .before .before .before .before .before .before .before .loop .inv .1) (c .before .before .before .before .before .before .before .before .before .before .before .before .loop-test .taken) (c .before .before .before .before .before .before .before .before .before .fault .result) (c .before .before .before .before .before .before .before .before .before .before .before .if1 .left) (c .before .before .before .before .before .before .before .before .before .fault .ensures) (c .before .before .before .before .before .before .before .before .if2 .left) (c .before .before .before .before .before .child-count .result) le (λ z. c .before .before .before .before .before .before .if3 .left (c .before .before .before .before .before .before .before .kind-bit .ensures .0 ∙ z)) (c .before .before .before .before .before .child-count .ensures) (c .before .before .records .ensures) (c .if7 .left))
 
 records-sub-l : (t : ℕ) → records-lts.Need-sub-l (records-uses t) (records-at t) records.Post records-Inv-loop records-μ-loop
-unfolding plain
 records-sub-l t c =
-    let le : c .before .before .before .before .before .before .before .before .before .before .loop .l ≤ maxDepth = omega (arith, c .before .before .before .before .before .before .before .before .before .before .loop .inv .0, c .before .before .before .before .before .before .before .before .before .before .before .before .pre .1) in
-    let d = loop-depth (c .before .before .before .before .before .before .before .before .before .before .loop .c) (c .before .before .before .before .before .before .before .before .before .before .loop .x) (c .before .before .before .before .before .before .before .before .before .before .loop .l) (c .before .before .before .before .before .before .before .before .before .before .loop .k) (c .before .before .before .before .before .before .before .before .before .before .loop .inv .1) (c .before .before .before .before .before .before .before .before .before .loop-test .taken) (c .before .before .before .before .fault .result) (c .before .before .child-count .result) le (c .before .before .before .before .before .before .before .before .if1 .left) (c .before .before .before .before .fault .ensures) (c .before .before .before .if4 .left) (λ z. c .before .before .before .before .before .if2 .left (c .before .before .before .before .before .before .kind-bit .ensures .0 ∙ z)) (c .before .before .child-count .ensures) in
+    let d = loop-depth (c .before .before .before .before .before .before .before .before .before .before .loop .c) (c .before .before .before .before .before .before .before .before .before .before .loop .x) (c .before .before .before .before .before .before .before .before .before .before .loop .l) (c .before .before .before .before .before .before .before .before .before .before .loop .k) (c .before .before .before .before .before .before .before .before .before .before .loop .inv .1) (c .before .before .before .before .before .before .before .before .before .loop-test .taken) (c .before .before .before .before .before .before .fault .result) (c .before .before .before .before .before .before .before .before .if1 .left) (c .before .before .before .before .before .before .fault .ensures) (c .before .before .before .before .before .if2 .left) in
     omega arith
 
 records-loop-less-4 : (t : ℕ) → records-lts.Need-loop-less-4 (records-uses t) (records-at t) records.Post records-Inv-loop records-μ-loop
-unfolding plain
 records-loop-less-4 t c =
-    let le : c .before .before .before .before .before .before .before .before .before .before .loop .l ≤ maxDepth = omega (arith, c .before .before .before .before .before .before .before .before .before .before .loop .inv .0, c .before .before .before .before .before .before .before .before .before .before .before .before .pre .1) in
-    let d = loop-depth (c .before .before .before .before .before .before .before .before .before .before .loop .c) (c .before .before .before .before .before .before .before .before .before .before .loop .x) (c .before .before .before .before .before .before .before .before .before .before .loop .l) (c .before .before .before .before .before .before .before .before .before .before .loop .k) (c .before .before .before .before .before .before .before .before .before .before .loop .inv .1) (c .before .before .before .before .before .before .before .before .before .loop-test .taken) (c .before .before .before .before .fault .result) (c .before .before .child-count .result) le (c .before .before .before .before .before .before .before .before .if1 .left) (c .before .before .before .before .fault .ensures) (c .before .before .before .if4 .left) (λ z. c .before .before .before .before .before .if2 .left (c .before .before .before .before .before .before .kind-bit .ensures .0 ∙ z)) (c .before .before .child-count .ensures) in
+    let d = loop-depth (c .before .before .before .before .before .before .before .before .before .before .loop .c) (c .before .before .before .before .before .before .before .before .before .before .loop .x) (c .before .before .before .before .before .before .before .before .before .before .loop .l) (c .before .before .before .before .before .before .before .before .before .before .loop .k) (c .before .before .before .before .before .before .before .before .before .before .loop .inv .1) (c .before .before .before .before .before .before .before .before .before .loop-test .taken) (c .before .before .before .before .before .before .fault .result) (c .before .before .before .before .before .before .before .before .if1 .left) (c .before .before .before .before .before .before .fault .ensures) (c .before .before .before .before .before .if2 .left) in
     let w = getD (c .before .before .before .before .before .before .before .before .before .before .before .before .args .ws .now) (c .before .before .before .before .before .before .before .before .before .before .loop .p) 0 in
     omega (arith, c .before .before .before .before .before .before .before .before .before .loop-test .taken, c .before .before .child-count .ensures, children-le (kindOf w) (payloadOf w), payload-lt w)
 
@@ -777,8 +739,7 @@ records-loop-again-4 : (t : ℕ) → records-lts.Need-loop-again-4 (records-uses
 unfolding plain
 records-loop-again-4 t c =
     let le : c .before .before .before .before .before .before .before .before .before .before .loop .l ≤ maxDepth = omega (arith, c .before .before .before .before .before .before .before .before .before .before .loop .inv .0, c .before .before .before .before .before .before .before .before .before .before .before .before .pre .1) in
-    let d = loop-depth (c .before .before .before .before .before .before .before .before .before .before .loop .c) (c .before .before .before .before .before .before .before .before .before .before .loop .x) (c .before .before .before .before .before .before .before .before .before .before .loop .l) (c .before .before .before .before .before .before .before .before .before .before .loop .k) (c .before .before .before .before .before .before .before .before .before .before .loop .inv .1) (c .before .before .before .before .before .before .before .before .before .loop-test .taken) (c .before .before .before .before .fault .result) (c .before .before .child-count .result) le (c .before .before .before .before .before .before .before .before .if1 .left) (c .before .before .before .before .fault .ensures) (c .before .before .before .if4 .left) (λ z. c .before .before .before .before .before .if2 .left (c .before .before .before .before .before .before .kind-bit .ensures .0 ∙ z)) (c .before .before .child-count .ensures) in
-    (omega (arith, c .before .before .before .before .before .before .before .before .before .before .loop .inv .0), loop-down (c .before .before .before .before .before .before .before .before .before .before .loop .c) (c .before .before .before .before .before .before .before .before .before .before .loop .x) (c .before .before .before .before .before .before .before .before .before .before .loop .l) (c .before .before .before .before .before .before .before .before .before .before .loop .k) (c .before .before .before .before .before .before .before .before .before .before .loop .inv .1) (c .before .before .before .before .before .before .before .before .before .loop-test .taken) (c .before .before .before .before .fault .result) (c .before .before .child-count .result) le (c .before .before .before .before .before .before .before .before .if1 .left) (c .before .before .before .before .fault .ensures) (c .before .before .before .if4 .left) (λ z. c .before .before .before .before .before .if2 .left (c .before .before .before .before .before .before .kind-bit .ensures .0 ∙ z)) (c .before .before .child-count .ensures) (c .if6 .left))
+    (omega (arith, c .before .before .before .before .before .before .before .before .before .before .loop .inv .0), loop-down (c .before .before .before .before .before .before .before .before .before .before .loop .c) (c .before .before .before .before .before .before .before .before .before .before .loop .x) (c .before .before .before .before .before .before .before .before .before .before .loop .l) (c .before .before .before .before .before .before .before .before .before .before .loop .k) (c .before .before .before .before .before .before .before .before .before .before .loop .inv .1) (c .before .before .before .before .before .before .before .before .before .loop-test .taken) (c .before .before .before .before .before .before .fault .result) (c .before .before .before .before .before .before .before .before .if1 .left) (c .before .before .before .before .before .before .fault .ensures) (c .before .before .before .before .before .if2 .left) (c .before .before .child-count .result) le (λ z. c .before .before .before .if3 .left (c .before .before .before .before .kind-bit .ensures .0 ∙ z)) (c .before .before .child-count .ensures) (c .if6 .left))
 
 records-returns-5 : (t : ℕ) → records-lts.Need-returns-5 (records-uses t) (records-at t) records.Post records-Inv-loop records-μ-loop
 records-returns-5 t c = loop-done (c .before .loop .c) (c .before .loop .x) (c .before .loop .l) (c .before .loop .k) (c .before .loop .inv .1) (c .loop-test .left)
@@ -861,15 +822,15 @@ statement-records-requires-3 t c κs =
 statement-returns-3 : (t : ℕ) → statement-lts.Need-returns-3 (statement-uses t) (statement-at t) statement′.Post
 statement-returns-3 t c = walked-as (statement-children 3 (c .before .before .before .before .before .before .before .args .context) (c .before .before .before .before .before .before .before .args .left) (c .before .before .before .before .before .before .before .pre .1 .0) (c .before .before .before .before .before .before .before .pre .1 .1) refl _ (c .before .child-count .ensures) refl (λ e. c .before .before .before .if1 .left (c .before .before .before .before .kind-of .ensures ∙ e)) (λ e. c .before .before .if2 .left (c .before .before .before .before .kind-of .ensures ∙ e))) (c .records3 .ensures)
 
-pub +class+element+expression+method+one-record+other+records+statement-spec :
+pub +class+element+expression+method+nested+other+records+statement-spec :
     {M : Type 1} → statement M
-+class+element+expression+method+one-record+other+records+statement-spec =
++class+element+expression+method+nested+other+records+statement-spec =
     close
     μ-class
     μ-element
     μ-expression
     μ-method
-    μ-one-record
+    μ-nested
     μ-other
     μ-records
     μ-statement
@@ -958,23 +919,18 @@ pub +class+element+expression+method+one-record+other+records+statement-spec :
     (method-cast-records t)
     (method-records-requires-4 t)
     (method-returns-4 t))
-    (λ t. one-record-lts.spec (one-record-uses t) (one-record-at t)
-    one-record.Post
-    (one-record-returns t)
-    (one-record-mul-fault t)
-    (one-record-shared-slice-read-fault t)
-    (one-record-fault-requires t)
-    (one-record-returns-2 t)
-    (one-record-statement-requires t)
-    (one-record-returns-3 t)
-    (one-record-expression-requires t)
-    (one-record-returns-4 t)
-    (one-record-class-requires t)
-    (one-record-returns-5 t)
-    (one-record-element-requires t)
-    (one-record-returns-6 t)
-    (one-record-other-requires t)
-    (one-record-returns-7 t))
+    (λ t. nested-lts.spec (nested-uses t) (nested-at t)
+    nested.Post
+    (nested-statement-requires t)
+    (nested-returns t)
+    (nested-expression-requires t)
+    (nested-returns-2 t)
+    (nested-class-requires t)
+    (nested-returns-3 t)
+    (nested-element-requires t)
+    (nested-returns-4 t)
+    (nested-other-requires t)
+    (nested-returns-5 t))
     (λ t. other-lts.spec (other-uses t) (other-at t)
     other.Post
     (other-mul-payload-of t)
@@ -1021,14 +977,14 @@ pub +class+element+expression+method+one-record+other+records+statement-spec :
     (records-returns t)
     (records-mul-w t)
     (records-shared-slice-read-w t)
-    (records-kind-bit-requires t)
-    (records-one-record-requires t)
+    (records-fault-requires t)
     (records-returns-2 t)
+    (records-kind-bit-requires t)
+    (records-nested-requires t)
+    (records-returns-3 t)
     (records-sub-k t)
     (records-loop-less t)
     (records-loop-again t)
-    (records-fault-requires t)
-    (records-returns-3 t)
     (records-add-p t)
     (records-sub-k-2 t)
     (records-child-count-requires t)
