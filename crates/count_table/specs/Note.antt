@@ -206,9 +206,10 @@ pub leads-noted : {ws : List ℕ} {at : ℕ} {t : Total} (next v r : ℕ) → Le
 leads-noted {ws} {at} {t} next v r h z e =
     let c : t .count < 16384 = omega (arith, h .few .1) in
     let q : stillBit (t .at) next < 2 = omega (arith, bit-small (t .at) next) in
-    let a : v % 2 < 2 = omega arith in
-    (subst (Noted ws at) (sym e) (noted-by ws at (t .at) (t .count) (stillBit (t .at) next) (v % 2) c q a (h .place) still (h .count)),
-    ap (λ (x : ℕ). eqb x 1) (ap (λ (x : ℕ). x % 2) e ∙ note-alias (t .at) (t .count) (stillBit (t .at) next) (v % 2) c q a))
+    let a : v % 2 < 2 = omega arith in (
+      subst (Noted ws at) (sym e) (noted-by ws at (t .at) (t .count) (stillBit (t .at) next) (v % 2) c q a (h .place) still (h .count)),
+      ap (λ (x : ℕ). eqb x 1) (ap (λ (x : ℕ). x % 2) e ∙ note-alias (t .at) (t .count) (stillBit (t .at) next) (v % 2) c q a),
+    )
   where
     still : stillBit (t .at) next ≡ 1 → anyF changes (takeF 1 (recordsAt ws at)) ≡ false
     still b =

@@ -252,7 +252,7 @@ module _ {ws notes : List ℕ} {at : ℕ} (w : Walks ws notes at) (h : at < leng
       (labelAt ws at .kind ≡ 32 → ⊥) → Totals ws (at + 1) (arityAt ws at) a has r → Totals ws at 1 a has r
   total-other {r} a4 a20 a30 a31 a32 t =
       let all : FromAny ws at 1 a has (r .at) (r .count) (r .default) = λ b n d f l e.
-          count-other (free-ready (w .ready) f) h b d a4 a20 a30 a31 a32 (t .after b n d (free-next f h) l e) in
+      count-other (free-ready (w .ready) f) h b d a4 a20 a30 a31 a32 (t .after b n d (free-next f h) l e) in
       record {
         place = t .place ∙ sym (end-one ws at h);
         low = t .low;
@@ -266,7 +266,7 @@ module _ {ws notes : List ℕ} {at : ℕ} (w : Walks ws notes at) (h : at < leng
       Totals ws at 1 a has (record { at = x / 65536; count = x / 4 % 16384; default = 67108864 })
   total-by f =
       let all : FromAny ws at 1 a has (x / 65536) (x / 4 % 16384) 67108864 = λ b n d g l e.
-          counts-same (f b n d g l) refl refl (from-none 67108864 n d refl) in
+      counts-same (f b n d g l) refl refl (from-none 67108864 n d refl) in
       record {
         place = t .place;
         low = inl refl;
@@ -330,8 +330,8 @@ module _ {ws notes : List ℕ} {at : ℕ} (w : Walks ws notes at) (h : at < leng
           Totals ws at 1 a has (record { at = x / 65536; count = c + m; default = o })
       member m o low f =
           let all : FromAny ws at 1 a has (x / 65536) (c + m) o = λ b n d g l e.
-              count-member (free-ready (w .ready) g) h b d (n + (c + m)) (defaultFrom o n d) kind (l ∙ live) dec (kids-counts b n d g)
-              (ap (λ (y : Scope). keyAfter (hasPlainKey (kidsAt ws at)) (classSymbol (optOf (y .id)) (optOf d) (stateOf (n + c) d) .after)) (e live .0) ∙ f n d g (e live .1)) in
+          count-member (free-ready (w .ready) g) h b d (n + (c + m)) (defaultFrom o n d) kind (l ∙ live) dec (kids-counts b n d g)
+          (ap (λ (y : Scope). keyAfter (hasPlainKey (kidsAt ws at)) (classSymbol (optOf (y .id)) (optOf d) (stateOf (n + c) d) .after)) (e live .0) ∙ f n d g (e live .1)) in
           record {
             place = t .place;
             low = low;

@@ -164,7 +164,15 @@ pub fn record(
 }
 
 // A record in which nothing changes, and which ends at e: its words under the classes around.
-fn copied(ws: &[u32], at: usize, e: usize, s: Count, c: ClassStack, out: &mut [u32], pos: usize) -> Went
+fn copied(
+    ws: &[u32],
+    at: usize,
+    e: usize,
+    s: Count,
+    c: ClassStack,
+    out: &mut [u32],
+    pos: usize,
+) -> Went
     requires { ⌜ Copies (now ws) at e c pos ⌝ }
     ensures { λ r. ⌜ Copied (now (ws .entry)) at e s c (now (out .entry)) pos (now (out .exit)) r ⌝ }
 {

@@ -178,10 +178,10 @@ module _ (word : ℕ → ℕ → ℕ) (ws : List ℕ) where
           let rest : Trees = takeF k (dropF (arityAt ws at) (recordsAt ws (at + 1))) in
           let j : ℕ = arityAt ws at + k in
           let w : written word (takeF (suc k) (recordsAt ws at)) ≡ wordBy word (labelAt ws at) ∷ written word (takeF j (recordsAt ws (at + 1))) =
-              ap (written word) (row-node at k h) ∙ written-node word (labelAt ws at) (kidsAt ws at) rest
-              ∙ ap (wordBy word (labelAt ws at) ∷_) (sym (written-append word (kidsAt ws at) rest) ∙ ap (written word) (row-kids at k)) in
+          ap (written word) (row-node at k h) ∙ written-node word (labelAt ws at) (kidsAt ws at) rest
+          ∙ ap (wordBy word (labelAt ws at) ∷_) (sym (written-append word (kidsAt ws at) rest) ∙ ap (written word) (row-kids at k)) in
           let z : size (takeF (suc k) (recordsAt ws at)) ≡ suc (size (takeF j (recordsAt ws (at + 1)))) =
-              ap size (row-node at k h) ∙ size-node (labelAt ws at) (kidsAt ws at) rest ∙ ap suc (sym (size-append (kidsAt ws at) rest) ∙ ap size (row-kids at k)) in
+          ap size (row-node at k h) ∙ size-node (labelAt ws at) (kidsAt ws at) rest ∙ ap suc (sym (size-append (kidsAt ws at) rest) ∙ ap size (row-kids at k)) in
           w ∙ ap (wordBy word (labelAt ws at) ∷_) (later h j) ∙ first at (size (takeF j (recordsAt ws (at + 1)))) ∙ ap (wordsFrom word ws at) (sym z)
       go false e = nothing at (suc k) (ap (takeF (suc k)) (records-past ws at (ltb-false at (length ws) e)) ∙ takeF-end (suc k))
 

@@ -1,3 +1,4 @@
+-- `find_counts`: the invariant says that the notes from the place on are right, and where the next word stands that may change.
 use Rattle.count_table.specs.Note.{Filled, filled-start, filled-behind, filled-next, down}
 use Rattle.counter.specs.Contract.{Annotated}
 use lib.ListN.{length}
@@ -5,10 +6,6 @@ use native.Mathlib.Omega.{arith}
 use mathlib.Core.Path.{subst}
 use Rattle.count_table.proofs.find_counts.Statement.{statement}
 use Rattle.count_table.proofs.find_counts.Tie as tie
-use Rattle.count_table.proofs.find_counts.Reads as reads
-use Rattle.count_table.proofs.find_counts.Lts as lts
-use Rattle.count_table.proofs.next_change.Reads as next-change-reads
-use Rattle.count_table.proofs.note.Reads as note-reads
 
 abbrev Inv-loop : tie.InvT-loop
 Inv-loop ws notes₀ s i₀ next₀ notes i next = Filled ws notes (length notes₀) i next
@@ -16,45 +13,35 @@ Inv-loop ws notes₀ s i₀ next₀ notes i next = Filled ws notes (length notes
 abbrev μ-loop : tie.MeasureT-loop
 μ-loop ws notes₀ s i₀ next₀ notes i next = i
 
--- src/lib.rt:23:5
 loop-holds : tie.Need-loop-holds Inv-loop μ-loop
 loop-holds c = filled-start (c .before .before .pre .planned)
 
--- src/lib.rt:24:9
 sub-i : tie.Need-sub-i Inv-loop μ-loop
 sub-i c = omega (arith, c .loop-test .taken)
 
--- src/lib.rt:25:9
 next-change-requires : tie.Need-next-change-requires Inv-loop μ-loop
 next-change-requires c κs =
     let d = down (c .before .loop .inv) (c .loop-test .taken) in
     (omega (arith, d .low), d .clear)
 
--- src/lib.rt:26:20
 note-requires : tie.Need-note-requires Inv-loop μ-loop
 note-requires c κs = (filled-behind (c .before .before .before .before .before .before .pre) (down (c .before .before .before .loop .inv) (c .before .before .loop-test .taken)), c .before .next-change .ensures)
 
--- src/lib.rt:26:9
 mul-notes : tie.Need-mul-notes Inv-loop μ-loop
 mul-notes c = omega (arith, c .before .before .before .before .loop .inv .low, c .before .before .before .before .before .before .before .pre .few)
 
--- src/lib.rt:26:9
 slice-write-notes : tie.Need-slice-write-notes Inv-loop μ-loop
 slice-write-notes c = omega (arith, c .before .before .before .before .loop .inv .low, c .before .before .before .before .loop .inv .planned .long, c .before .before .before .loop-test .taken)
 
--- src/lib.rt:23:5
 loop-less : tie.Need-loop-less Inv-loop μ-loop
 loop-less c = omega (arith, c .before .before .before .loop-test .taken)
 
--- src/lib.rt:23:5
 loop-again : tie.Need-loop-again Inv-loop μ-loop
 loop-again c = filled-next _ _ (down (c .before .before .before .before .loop .inv) (c .before .before .before .loop-test .taken)) (c .before .before .next-change .ensures) (c .note .ensures .0) (c .note .ensures .1)
 
--- src/lib.rt:17:1
 same-length : tie.Need-same-length Inv-loop μ-loop
 same-length c = c .before .loop .inv .long
 
--- src/lib.rt:17:1
 returns : tie.Need-returns Inv-loop μ-loop
 returns c =
     let d = c .before .loop .inv in

@@ -1,4 +1,6 @@
 use Rattle.transform.specs.StepsClasses.{no-constructor, first-at, elements-plain, elements-none, elements-asks, elements-wrote, before-asks, constructor-asks, constructor-inside, behind-asks, bare-wrote, arity-few, one-le, one-no, one-yes, stack-outer, stack-asks, body-room, block-room, body-wrote, block-wrote, alias-none, count-plan, inside-asks, few-flags, body-inside, body-is, body-later, body-deep, body-id, body-default, class-heritage, class-place, class-state, class-body-asks, class-wrote, entries-none, entries-kids, entries-inside, entries-asks, entries-wrote, decorators-asks, assignment-entries, entries-few, entries-end, assignment-wrote, queue-silent, queue-place, queue-state, queue-calls, queue-plain, queue-assignment, calls-few, assignment-end, queue-wrote, class-parts, statement-class, statement-queue, statement-end, statement-few, statement-emitted}
+use Rattle.counter.specs.Totals.{note-at}
+use Rattle.transform.specs.Copies.{copies, copied-emits}
 use Rattle.transform.specs.Steps.{noted-next, asks-kids}
 use Rattle.transform.specs.Plans.{body-fits}
 use Rattle.transform.specs.ClassWords.{scopeOf, frontOf, blockOf}
@@ -21,7 +23,7 @@ use Rattle.inspect.specs.Child.{optOf}
 use Rattle.rewriting.specs.Parts.{indexed as indexed′, ofParameters}
 use Rattle.grammar.specs.WellFormed.{Allowed}
 use Rattle.grammar.specs.Grammar.{element}
-use Rattle.records.specs.Place.{labelAt, arityAt, end-low}
+use Rattle.records.specs.Place.{end-high, labelAt, arityAt, end-low}
 use Rattle.records.specs.Label.{Trees}
 use Rattle.records.specs.Forest.{size, count-size}
 use Prim.Native.Nat.{ℕ, _+_, _*_, _-_, _<_, _≤_}
@@ -47,7 +49,7 @@ use Rattle.records.specs.Place.{labelAt, kidsAt, arityAt, endOf, end-low}
 use Rattle.records.specs.Forest.{size, countF, count-size}
 use Rattle.words.specs.Word.{kindOf, kind-lt}
 use lib.ListN.{length, getD}
-use borrow.Author.Tests.{not-true, not-false}
+use borrow.Author.Tests.{eq-eqb, not-true, not-false}
 use borrow.Author.Needs.{needs}
 use native.Mathlib.Omega.{arith}
 use Prim.Native.Nat.{suc, _+_, _*_, _-_, _≤_}
@@ -59,6 +61,7 @@ use borrow.Fn.Kinds.{In}
 use borrow.Fn.PlainCycle.{Measures, is, falls, and}
 use Rattle.transform.proofs.bare.Reads as bare
 use Rattle.transform.proofs.bare.Kinds as bare-kinds
+use Rattle.transform.proofs.copied.Reads as copied-reads
 use Rattle.transform.proofs.+bare+call+calls+class_body+class_statement+create_assignment+declared+elements+entries+expression+first_entries+indexed+kept+list+live_class+member+parameter+parameters+program+queue+record+records+transform_class+transform_decorators_of_parameters.Lts-bare as bare-lts
 use Rattle.transform.proofs.call.Reads as call
 use Rattle.transform.proofs.call.Kinds as call-kinds
@@ -498,7 +501,7 @@ abbrev queue-uses : ℕ → queue-lts.Claims
 queue-uses t = (children-at-reads.Asked, children-at-reads.Learnt, count-records-reads.Asked, count-records-reads.Learnt, calls-below t, calls.Post, create-assignment-below t, create-assignment.Post, payload-at-reads.Asked, payload-at-reads.Learnt, create-export-reads.Asked, create-export-reads.Learnt, export-count-reads.Asked, export-count-reads.Learnt)
 
 abbrev record-uses : ℕ → record-lts.Claims
-record-uses t = (kind-at-reads.Asked, kind-at-reads.Learnt, program-below t, program.Post, list-below t, list.Post, class-statement-below t, class-statement.Post, expression-below t, expression.Post, word-at-reads.Asked, word-at-reads.Learnt, is-constructor-reads.Asked, is-constructor-reads.Learnt, kept-below t, kept.Post, member-below t, member.Post)
+record-uses t = (copied-reads.Asked, copied-reads.Learnt, kind-at-reads.Asked, kind-at-reads.Learnt, program-below t, program.Post, list-below t, list.Post, class-statement-below t, class-statement.Post, expression-below t, expression.Post, word-at-reads.Asked, word-at-reads.Learnt, is-constructor-reads.Asked, is-constructor-reads.Learnt, kept-below t, kept.Post, member-below t, member.Post)
 
 abbrev transform-class-uses : ℕ → transform-class-lts.Claims
 transform-class-uses t = (payload-at-reads.Asked, payload-at-reads.Learnt, class-words-reads.Asked, class-words-reads.Learnt, count-records-reads.Asked, count-records-reads.Learnt, records-below t, records.Post, class-body-below t, class-body.Post)
@@ -1820,26 +1823,53 @@ queue-returns-3 t c =
     let d : c .before .before .before .before .before .before .before .before .before .before .before .before .before .before .before .before .before .before .before .before .before .before .before .before .before .args .g .decorated ≡ true = not-false _ (c .before .before .before .before .before .before .before .before .before .before .before .if2 .left) in
     queue-wrote (p .0) (p .1) (p .2) (p .4) (c .before .before .before .before .before .before .before .before .before .before .before .before .before .before .before .before .before .before .before .before .before .if1 .left) b s be se (c .before .before .before .before .before .before .before .before .before .before .before .before .before .before .before .before .before .children-at2 .result) (c .before .before .before .before .before .before .before .before .before .before .before .before .before .before .before .before .before .children-at2 .ensures .0) (c .before .before .before .before .before .before .before .before .before .before .before .before .before .before .before .calls .ensures) d (c .before .before .before .before .before .before .before .before .before .create-assignment .ensures) (c .before .before .before .before .before .before .payload-at .result) (c .before .before .before .before .before .before .payload-at .ensures .0) (c .before .before .before .before .create-export .ensures) (c .export-count .ensures)
 
+record-mul-w : (t : ℕ) → record-lts.Need-mul-w (record-uses t) (record-at t) record.Post
+record-mul-w t c = omega (arith, c .before .before .before .pre .1 .1, c .before .before .before .pre .1 .0 .ready .few)
+
+record-shared-slice-read-w : (t : ℕ) → record-lts.Need-shared-slice-read-w (record-uses t) (record-at t) record.Post
+record-shared-slice-read-w t c = omega (arith, c .before .before .before .before .pre .1 .0 .ready .planned .long, c .before .before .before .before .pre .1 .1)
+
+record-cast-copied : (t : ℕ) → record-lts.Need-cast-copied (record-uses t) (record-at t) record.Post
+record-cast-copied t c =
+    let g = c .before .before .before .before .before .args in
+    let f = c .before .before .before .before .before .pre .1 in
+    omega (arith, note-at _ _ _ (f .0 .noted) (f .1) .place, end-high (g .ws .now) (g .at) 1, f .0 .ready .few, f .1)
+
+record-copied-requires : (t : ℕ) → record-lts.Need-copied-requires (record-uses t) (record-at t) record.Post
+record-copied-requires t c κs =
+    let g = c .before .before .before .before .before .before .args in
+    let f = c .before .before .before .before .before .before .pre .1 in
+    copies (g .a) (g .s) (f .0) (f .1) _ (note-at _ _ _ (f .0 .noted) (f .1)) (eq-eqb _ 1 (c .before .if1 .taken))
+
+record-same-length : (t : ℕ) → record-lts.Need-same-length (record-uses t) (record-at t) record.Post
+record-same-length t c = c .before .before .copied .kept .1 .1 .1 .1 .1 .0
+
+record-returns : (t : ℕ) → record-lts.Need-returns (record-uses t) (record-at t) record.Post
+record-returns t c =
+    let g = c .before .before .before .before .before .before .before .before .before .args in
+    let f = c .before .before .before .before .before .before .before .before .before .pre .1 in
+    copied-emits (g .a) (g .s) (f .0) (f .1) _ (note-at _ _ _ (f .0 .noted) (f .1)) (eq-eqb _ 1 (c .before .before .before .before .if1 .taken)) (c .before .before .copied .ensures)
+
 record-kind-at-requires : (t : ℕ) → record-lts.Need-kind-at-requires (record-uses t) (record-at t) record.Post
 record-kind-at-requires t c κs = search needs
 
 record-program-requires : (t : ℕ) → record-lts.Need-program-requires (record-uses t) (record-at t) record.Post
-record-program-requires t c κs = (omega (arith, c .before .before .before .before .before .before .pre .0), (c .before .before .before .before .before .before .pre .1 .0, c .before .before .before .before .before .before .pre .1 .1, sym (c .before .before .kind-at .ensures) ∙ c .before .match .keys1))
+record-program-requires t c κs = (omega (arith, c .before .before .before .before .before .before .before .before .pre .0), (c .before .before .before .before .before .before .before .before .pre .1 .0, c .before .before .before .before .before .before .before .before .pre .1 .1, sym (c .before .before .kind-at .ensures) ∙ c .before .match .keys1))
 
 record-list-requires : (t : ℕ) → record-lts.Need-list-requires (record-uses t) (record-at t) record.Post
-record-list-requires t c κs = (omega (arith, c .before .before .before .before .before .before .pre .0), (c .before .before .before .before .before .before .pre .1 .0, c .before .before .before .before .before .before .pre .1 .1, list-3 _ (sym (c .before .before .kind-at .ensures) ∙ c .before .match .keys2)))
+record-list-requires t c κs = (omega (arith, c .before .before .before .before .before .before .before .before .pre .0), (c .before .before .before .before .before .before .before .before .pre .1 .0, c .before .before .before .before .before .before .before .before .pre .1 .1, list-3 _ (sym (c .before .before .kind-at .ensures) ∙ c .before .match .keys2)))
 
 record-list-requires-2 : (t : ℕ) → record-lts.Need-list-requires-2 (record-uses t) (record-at t) record.Post
-record-list-requires-2 t c κs = (omega (arith, c .before .before .before .before .before .before .pre .0), (c .before .before .before .before .before .before .pre .1 .0, c .before .before .before .before .before .before .pre .1 .1, list-33 _ (sym (c .before .before .kind-at .ensures) ∙ c .before .match .keys3)))
+record-list-requires-2 t c κs = (omega (arith, c .before .before .before .before .before .before .before .before .pre .0), (c .before .before .before .before .before .before .before .before .pre .1 .0, c .before .before .before .before .before .before .before .before .pre .1 .1, list-33 _ (sym (c .before .before .kind-at .ensures) ∙ c .before .match .keys3)))
 
 record-list-requires-3 : (t : ℕ) → record-lts.Need-list-requires-3 (record-uses t) (record-at t) record.Post
-record-list-requires-3 t c κs = (omega (arith, c .before .before .before .before .before .before .pre .0), (c .before .before .before .before .before .before .pre .1 .0, c .before .before .before .before .before .before .pre .1 .1, list-39 _ (sym (c .before .before .kind-at .ensures) ∙ c .before .match .keys4)))
+record-list-requires-3 t c κs = (omega (arith, c .before .before .before .before .before .before .before .before .pre .0), (c .before .before .before .before .before .before .before .before .pre .1 .0, c .before .before .before .before .before .before .before .before .pre .1 .1, list-39 _ (sym (c .before .before .kind-at .ensures) ∙ c .before .match .keys4)))
 
 record-class-statement-requires : (t : ℕ) → record-lts.Need-class-statement-requires (record-uses t) (record-at t) record.Post
-record-class-statement-requires t c κs = (omega (arith, c .before .before .before .before .before .before .pre .0), (c .before .before .before .before .before .before .pre .1 .0, c .before .before .before .before .before .before .pre .1 .1, sym (c .before .before .kind-at .ensures) ∙ c .before .match .keys5))
+record-class-statement-requires t c κs = (omega (arith, c .before .before .before .before .before .before .before .before .pre .0), (c .before .before .before .before .before .before .before .before .pre .1 .0, c .before .before .before .before .before .before .before .before .pre .1 .1, sym (c .before .before .kind-at .ensures) ∙ c .before .match .keys5))
 
 record-expression-requires : (t : ℕ) → record-lts.Need-expression-requires (record-uses t) (record-at t) record.Post
-record-expression-requires t c κs = (omega (arith, c .before .before .before .before .before .before .pre .0), (c .before .before .before .before .before .before .pre .1 .0, c .before .before .before .before .before .before .pre .1 .1, sym (c .before .before .kind-at .ensures) ∙ c .before .match .keys6))
+record-expression-requires t c κs = (omega (arith, c .before .before .before .before .before .before .before .before .pre .0), (c .before .before .before .before .before .before .before .before .pre .1 .0, c .before .before .before .before .before .before .before .before .pre .1 .1, sym (c .before .before .kind-at .ensures) ∙ c .before .match .keys6))
 
 record-word-at-requires : (t : ℕ) → record-lts.Need-word-at-requires (record-uses t) (record-at t) record.Post
 record-word-at-requires t c κs = search needs
@@ -1849,121 +1879,121 @@ record-is-constructor-requires t c κs = search needs
 
 record-kept-requires : (t : ℕ) → record-lts.Need-kept-requires (record-uses t) (record-at t) record.Post
 record-kept-requires t c κs =
-    let g = c .before .before .before .before .before .before .before .before .before .args in
+    let g = c .before .before .before .before .before .before .before .before .before .before .before .args in
     let k = sym (c .before .before .before .before .before .kind-at .ensures) ∙ c .before .before .before .before .match .keys7 in
     let b = sym (constructor-at (g .ws .now) (g .at) (c .before .before .before .word-at .result) (c .before .before .before .word-at .ensures)) ∙ sym (c .before .before .is-constructor .ensures) in
-    (omega (arith, c .before .before .before .before .before .before .before .before .before .pre .0), (c .before .before .before .before .before .before .before .before .before .pre .1 .0, c .before .before .before .before .before .before .before .before .before .pre .1 .1, inr (constructor-30 (labelAt (g .ws .now) (g .at)) k (b ∙ c .before .if1 .taken))))
+    (omega (arith, c .before .before .before .before .before .before .before .before .before .before .before .pre .0), (c .before .before .before .before .before .before .before .before .before .before .before .pre .1 .0, c .before .before .before .before .before .before .before .before .before .before .before .pre .1 .1, inr (constructor-30 (labelAt (g .ws .now) (g .at)) k (b ∙ c .before .if2 .taken))))
 
-record-same-length : (t : ℕ) → record-lts.Need-same-length (record-uses t) (record-at t) record.Post
-record-same-length t c = c .before .before .kept .kept .1 .1 .1 .1 .1 .1 .0
+record-same-length-2 : (t : ℕ) → record-lts.Need-same-length-2 (record-uses t) (record-at t) record.Post
+record-same-length-2 t c = c .before .before .kept .kept .1 .1 .1 .1 .1 .1 .0
 
-record-returns : (t : ℕ) → record-lts.Need-returns (record-uses t) (record-at t) record.Post
-record-returns t c = c .before .before .kept .ensures
+record-returns-2 : (t : ℕ) → record-lts.Need-returns-2 (record-uses t) (record-at t) record.Post
+record-returns-2 t c = c .before .before .kept .ensures
 
 record-member-requires : (t : ℕ) → record-lts.Need-member-requires (record-uses t) (record-at t) record.Post
 record-member-requires t c κs =
-    let g = c .before .before .before .before .before .before .before .before .before .args in
-    let f = c .before .before .before .before .before .before .before .before .before .pre .1 in
+    let g = c .before .before .before .before .before .before .before .before .before .before .before .args in
+    let f = c .before .before .before .before .before .before .before .before .before .before .before .pre .1 in
     let k = sym (c .before .before .before .before .before .kind-at .ensures) ∙ c .before .before .before .before .match .keys7 in
     let b = sym (constructor-at (g .ws .now) (g .at) (c .before .before .before .word-at .result) (c .before .before .before .word-at .ensures)) ∙ sym (c .before .before .is-constructor .ensures) in
-    let m = member-30 (labelAt (g .ws .now) (g .at)) k (b ∙ c .before .if1 .left) in
-    (omega (arith, c .before .before .before .before .before .before .before .before .before .pre .0), (asks-words (f .0) (g .pos) (length (memberWords (g .ws .now) (g .at) (g .a) (g .s) (g .c))) (omega (arith, f .0 .fit, member-size (g .ws .now) (g .at) (g .a) (g .s) (g .c) (f .1) (f .0 .ready .whole) m)), f .1, ap isElementKind k ∙ (unfold isElementKind in refl)))
+    let m = member-30 (labelAt (g .ws .now) (g .at)) k (b ∙ c .before .if2 .left) in
+    (omega (arith, c .before .before .before .before .before .before .before .before .before .before .before .pre .0), (asks-words (f .0) (g .pos) (length (memberWords (g .ws .now) (g .at) (g .a) (g .s) (g .c))) (omega (arith, f .0 .fit, member-size (g .ws .now) (g .at) (g .a) (g .s) (g .c) (f .1) (f .0 .ready .whole) m)), f .1, ap isElementKind k ∙ (unfold isElementKind in refl)))
 
 record-member-requires-2 : (t : ℕ) → record-lts.Need-member-requires-2 (record-uses t) (record-at t) record.Post
 record-member-requires-2 t c κs =
-    let g = c .before .before .before .before .before .before .args in
-    let f = c .before .before .before .before .before .before .pre .1 in
+    let g = c .before .before .before .before .before .before .before .before .args in
+    let f = c .before .before .before .before .before .before .before .before .pre .1 in
     let k = sym (c .before .before .kind-at .ensures) ∙ c .before .match .keys8 in
     let m = member-31 (labelAt (g .ws .now) (g .at)) k in
-    (omega (arith, c .before .before .before .before .before .before .pre .0), (asks-words (f .0) (g .pos) (length (memberWords (g .ws .now) (g .at) (g .a) (g .s) (g .c))) (omega (arith, f .0 .fit, member-size (g .ws .now) (g .at) (g .a) (g .s) (g .c) (f .1) (f .0 .ready .whole) m)), f .1, ap isElementKind k ∙ (unfold isElementKind in refl)))
+    (omega (arith, c .before .before .before .before .before .before .before .before .pre .0), (asks-words (f .0) (g .pos) (length (memberWords (g .ws .now) (g .at) (g .a) (g .s) (g .c))) (omega (arith, f .0 .fit, member-size (g .ws .now) (g .at) (g .a) (g .s) (g .c) (f .1) (f .0 .ready .whole) m)), f .1, ap isElementKind k ∙ (unfold isElementKind in refl)))
 
 record-member-requires-3 : (t : ℕ) → record-lts.Need-member-requires-3 (record-uses t) (record-at t) record.Post
 record-member-requires-3 t c κs =
-    let g = c .before .before .before .before .before .before .args in
-    let f = c .before .before .before .before .before .before .pre .1 in
+    let g = c .before .before .before .before .before .before .before .before .args in
+    let f = c .before .before .before .before .before .before .before .before .pre .1 in
     let k = sym (c .before .before .kind-at .ensures) ∙ c .before .match .keys9 in
     let m = member-32 (labelAt (g .ws .now) (g .at)) k in
-    (omega (arith, c .before .before .before .before .before .before .pre .0), (asks-words (f .0) (g .pos) (length (memberWords (g .ws .now) (g .at) (g .a) (g .s) (g .c))) (omega (arith, f .0 .fit, member-size (g .ws .now) (g .at) (g .a) (g .s) (g .c) (f .1) (f .0 .ready .whole) m)), f .1, ap isElementKind k ∙ (unfold isElementKind in refl)))
+    (omega (arith, c .before .before .before .before .before .before .before .before .pre .0), (asks-words (f .0) (g .pos) (length (memberWords (g .ws .now) (g .at) (g .a) (g .s) (g .c))) (omega (arith, f .0 .fit, member-size (g .ws .now) (g .at) (g .a) (g .s) (g .c) (f .1) (f .0 .ready .whole) m)), f .1, ap isElementKind k ∙ (unfold isElementKind in refl)))
 
 record-kept-requires-2 : (t : ℕ) → record-lts.Need-kept-requires-2 (record-uses t) (record-at t) record.Post
 record-kept-requires-2 t c κs =
-    let g = c .before .before .before .before .before .before .args in
+    let g = c .before .before .before .before .before .before .before .before .args in
     let k = c .before .before .kind-at .ensures in
     let m = c .before .match .rest in
-    (omega (arith, c .before .before .before .before .before .before .pre .0), (c .before .before .before .before .before .before .pre .1 .0, c .before .before .before .before .before .before .pre .1 .1, inl (plain-rest (labelAt (g .ws .now) (g .at)) (λ e. m .0 .0 .0 .0 .0 .0 .0 .0 .1 (k ∙ e)) (λ e. m .0 .0 .0 .0 .0 .0 .0 .1 (k ∙ e)) (λ e. m .0 .0 .0 .0 .0 .0 .1 (k ∙ e)) (λ e. m .0 .0 .0 .0 .0 .1 (k ∙ e)) (λ e. m .0 .0 .0 .0 .1 (k ∙ e)) (λ e. m .0 .0 .0 .1 (k ∙ e)) (λ e. m .0 .0 .1 (k ∙ e)) (λ e. m .0 .1 (k ∙ e)) (λ e. m .1 (k ∙ e)))))
-
-record-same-length-2 : (t : ℕ) → record-lts.Need-same-length-2 (record-uses t) (record-at t) record.Post
-record-same-length-2 t c = c .before .before .program .kept .1 .1 .1 .1 .1 .1 .0
-
-record-returns-2 : (t : ℕ) → record-lts.Need-returns-2 (record-uses t) (record-at t) record.Post
-record-returns-2 t c = c .before .before .program .ensures
+    (omega (arith, c .before .before .before .before .before .before .before .before .pre .0), (c .before .before .before .before .before .before .before .before .pre .1 .0, c .before .before .before .before .before .before .before .before .pre .1 .1, inl (plain-rest (labelAt (g .ws .now) (g .at)) (λ e. m .0 .0 .0 .0 .0 .0 .0 .0 .1 (k ∙ e)) (λ e. m .0 .0 .0 .0 .0 .0 .0 .1 (k ∙ e)) (λ e. m .0 .0 .0 .0 .0 .0 .1 (k ∙ e)) (λ e. m .0 .0 .0 .0 .0 .1 (k ∙ e)) (λ e. m .0 .0 .0 .0 .1 (k ∙ e)) (λ e. m .0 .0 .0 .1 (k ∙ e)) (λ e. m .0 .0 .1 (k ∙ e)) (λ e. m .0 .1 (k ∙ e)) (λ e. m .1 (k ∙ e)))))
 
 record-same-length-3 : (t : ℕ) → record-lts.Need-same-length-3 (record-uses t) (record-at t) record.Post
-record-same-length-3 t c = c .before .before .list .kept .1 .1 .1 .1 .1 .1 .0
+record-same-length-3 t c = c .before .before .program .kept .1 .1 .1 .1 .1 .1 .0
 
 record-returns-3 : (t : ℕ) → record-lts.Need-returns-3 (record-uses t) (record-at t) record.Post
-record-returns-3 t c = c .before .before .list .ensures
+record-returns-3 t c = c .before .before .program .ensures
 
 record-same-length-4 : (t : ℕ) → record-lts.Need-same-length-4 (record-uses t) (record-at t) record.Post
-record-same-length-4 t c = c .before .before .list2 .kept .1 .1 .1 .1 .1 .1 .0
+record-same-length-4 t c = c .before .before .list .kept .1 .1 .1 .1 .1 .1 .0
 
 record-returns-4 : (t : ℕ) → record-lts.Need-returns-4 (record-uses t) (record-at t) record.Post
-record-returns-4 t c = c .before .before .list2 .ensures
+record-returns-4 t c = c .before .before .list .ensures
 
 record-same-length-5 : (t : ℕ) → record-lts.Need-same-length-5 (record-uses t) (record-at t) record.Post
-record-same-length-5 t c = c .before .before .list3 .kept .1 .1 .1 .1 .1 .1 .0
+record-same-length-5 t c = c .before .before .list2 .kept .1 .1 .1 .1 .1 .1 .0
 
 record-returns-5 : (t : ℕ) → record-lts.Need-returns-5 (record-uses t) (record-at t) record.Post
-record-returns-5 t c = c .before .before .list3 .ensures
+record-returns-5 t c = c .before .before .list2 .ensures
 
 record-same-length-6 : (t : ℕ) → record-lts.Need-same-length-6 (record-uses t) (record-at t) record.Post
-record-same-length-6 t c = c .before .before .class-statement .kept .1 .1 .1 .1 .1 .1 .0
+record-same-length-6 t c = c .before .before .list3 .kept .1 .1 .1 .1 .1 .1 .0
 
 record-returns-6 : (t : ℕ) → record-lts.Need-returns-6 (record-uses t) (record-at t) record.Post
-record-returns-6 t c = c .before .before .class-statement .ensures
+record-returns-6 t c = c .before .before .list3 .ensures
 
 record-same-length-7 : (t : ℕ) → record-lts.Need-same-length-7 (record-uses t) (record-at t) record.Post
-record-same-length-7 t c = c .before .before .expression .kept .1 .1 .1 .1 .1 .1 .0
+record-same-length-7 t c = c .before .before .class-statement .kept .1 .1 .1 .1 .1 .1 .0
 
 record-returns-7 : (t : ℕ) → record-lts.Need-returns-7 (record-uses t) (record-at t) record.Post
-record-returns-7 t c = c .before .before .expression .ensures
+record-returns-7 t c = c .before .before .class-statement .ensures
 
 record-same-length-8 : (t : ℕ) → record-lts.Need-same-length-8 (record-uses t) (record-at t) record.Post
-record-same-length-8 t c = c .before .before .member .kept .1 .1 .1 .1 .1 .1 .0
+record-same-length-8 t c = c .before .before .expression .kept .1 .1 .1 .1 .1 .1 .0
 
 record-returns-8 : (t : ℕ) → record-lts.Need-returns-8 (record-uses t) (record-at t) record.Post
-record-returns-8 t c =
-    let g = c .before .before .before .before .before .before .before .before .before .before .before .before .args in
-    let f = c .before .before .before .before .before .before .before .before .before .before .before .before .pre .1 in
-    let k = sym (c .before .before .before .before .before .before .before .before .kind-at .ensures) ∙ c .before .before .before .before .before .before .before .match .keys7 in
-    let b = sym (constructor-at (g .ws .now) (g .at) (c .before .before .before .before .before .before .word-at .result) (c .before .before .before .before .before .before .word-at .ensures)) ∙ sym (c .before .before .before .before .before .is-constructor .ensures) in
-    emit-member (g .ws .now) (g .at) (g .a) (g .s) (g .c) (f .1) (f .0 .ready .whole) (member-30 (labelAt (g .ws .now) (g .at)) k (b ∙ c .before .before .before .before .if1 .left)) (c .before .before .member .ensures .0) (c .before .before .member .ensures .1)
+record-returns-8 t c = c .before .before .expression .ensures
 
 record-same-length-9 : (t : ℕ) → record-lts.Need-same-length-9 (record-uses t) (record-at t) record.Post
-record-same-length-9 t c = c .before .before .member2 .kept .1 .1 .1 .1 .1 .1 .0
+record-same-length-9 t c = c .before .before .member .kept .1 .1 .1 .1 .1 .1 .0
 
 record-returns-9 : (t : ℕ) → record-lts.Need-returns-9 (record-uses t) (record-at t) record.Post
 record-returns-9 t c =
-    let g = c .before .before .before .before .before .before .before .before .before .args in
-    let f = c .before .before .before .before .before .before .before .before .before .pre .1 in
-    let k = sym (c .before .before .before .before .before .kind-at .ensures) ∙ c .before .before .before .before .match .keys8 in
-    emit-member (g .ws .now) (g .at) (g .a) (g .s) (g .c) (f .1) (f .0 .ready .whole) (member-31 (labelAt (g .ws .now) (g .at)) k) (c .before .before .member2 .ensures .0) (c .before .before .member2 .ensures .1)
+    let g = c .before .before .before .before .before .before .before .before .before .before .before .before .before .before .args in
+    let f = c .before .before .before .before .before .before .before .before .before .before .before .before .before .before .pre .1 in
+    let k = sym (c .before .before .before .before .before .before .before .before .kind-at .ensures) ∙ c .before .before .before .before .before .before .before .match .keys7 in
+    let b = sym (constructor-at (g .ws .now) (g .at) (c .before .before .before .before .before .before .word-at .result) (c .before .before .before .before .before .before .word-at .ensures)) ∙ sym (c .before .before .before .before .before .is-constructor .ensures) in
+    emit-member (g .ws .now) (g .at) (g .a) (g .s) (g .c) (f .1) (f .0 .ready .whole) (member-30 (labelAt (g .ws .now) (g .at)) k (b ∙ c .before .before .before .before .if2 .left)) (c .before .before .member .ensures .0) (c .before .before .member .ensures .1)
 
 record-same-length-10 : (t : ℕ) → record-lts.Need-same-length-10 (record-uses t) (record-at t) record.Post
-record-same-length-10 t c = c .before .before .member3 .kept .1 .1 .1 .1 .1 .1 .0
+record-same-length-10 t c = c .before .before .member2 .kept .1 .1 .1 .1 .1 .1 .0
 
 record-returns-10 : (t : ℕ) → record-lts.Need-returns-10 (record-uses t) (record-at t) record.Post
 record-returns-10 t c =
-    let g = c .before .before .before .before .before .before .before .before .before .args in
-    let f = c .before .before .before .before .before .before .before .before .before .pre .1 in
+    let g = c .before .before .before .before .before .before .before .before .before .before .before .args in
+    let f = c .before .before .before .before .before .before .before .before .before .before .before .pre .1 in
+    let k = sym (c .before .before .before .before .before .kind-at .ensures) ∙ c .before .before .before .before .match .keys8 in
+    emit-member (g .ws .now) (g .at) (g .a) (g .s) (g .c) (f .1) (f .0 .ready .whole) (member-31 (labelAt (g .ws .now) (g .at)) k) (c .before .before .member2 .ensures .0) (c .before .before .member2 .ensures .1)
+
+record-same-length-11 : (t : ℕ) → record-lts.Need-same-length-11 (record-uses t) (record-at t) record.Post
+record-same-length-11 t c = c .before .before .member3 .kept .1 .1 .1 .1 .1 .1 .0
+
+record-returns-11 : (t : ℕ) → record-lts.Need-returns-11 (record-uses t) (record-at t) record.Post
+record-returns-11 t c =
+    let g = c .before .before .before .before .before .before .before .before .before .before .before .args in
+    let f = c .before .before .before .before .before .before .before .before .before .before .before .pre .1 in
     let k = sym (c .before .before .before .before .before .kind-at .ensures) ∙ c .before .before .before .before .match .keys9 in
     emit-member (g .ws .now) (g .at) (g .a) (g .s) (g .c) (f .1) (f .0 .ready .whole) (member-32 (labelAt (g .ws .now) (g .at)) k) (c .before .before .member3 .ensures .0) (c .before .before .member3 .ensures .1)
 
-record-same-length-11 : (t : ℕ) → record-lts.Need-same-length-11 (record-uses t) (record-at t) record.Post
-record-same-length-11 t c = c .before .before .kept2 .kept .1 .1 .1 .1 .1 .1 .0
+record-same-length-12 : (t : ℕ) → record-lts.Need-same-length-12 (record-uses t) (record-at t) record.Post
+record-same-length-12 t c = c .before .before .kept2 .kept .1 .1 .1 .1 .1 .1 .0
 
-record-returns-11 : (t : ℕ) → record-lts.Need-returns-11 (record-uses t) (record-at t) record.Post
-record-returns-11 t c = c .before .before .kept2 .ensures
+record-returns-12 : (t : ℕ) → record-lts.Need-returns-12 (record-uses t) (record-at t) record.Post
+record-returns-12 t c = c .before .before .kept2 .ensures
 
 abbrev records-Inv-loop : records-lts.InvT-loop
 records-Inv-loop ws notes at k a c out₀ pos q₀ i₀ p₀ n₀ d₀ m₀ out q i p n d m = (q ≤ length ws) × (i ≤ k) × (length out ≡ length out₀) × Emitted ws at i a (record { next = n₀; default = d₀ }) c out₀ pos out (record { at = q; pos = p; next = n; default = d; count = m })
@@ -2659,6 +2689,12 @@ pub +bare+call+calls+class-body+class-statement+create-assignment+declared+eleme
     (queue-returns-3 t))
     (λ t. record-lts.spec (record-uses t) (record-at t)
     record.Post
+    (record-mul-w t)
+    (record-shared-slice-read-w t)
+    (record-cast-copied t)
+    (record-copied-requires t)
+    (record-same-length t)
+    (record-returns t)
     (record-kind-at-requires t)
     (record-program-requires t)
     (record-list-requires t)
@@ -2669,14 +2705,12 @@ pub +bare+call+calls+class-body+class-statement+create-assignment+declared+eleme
     (record-word-at-requires t)
     (record-is-constructor-requires t)
     (record-kept-requires t)
-    (record-same-length t)
-    (record-returns t)
+    (record-same-length-2 t)
+    (record-returns-2 t)
     (record-member-requires t)
     (record-member-requires-2 t)
     (record-member-requires-3 t)
     (record-kept-requires-2 t)
-    (record-same-length-2 t)
-    (record-returns-2 t)
     (record-same-length-3 t)
     (record-returns-3 t)
     (record-same-length-4 t)
@@ -2694,7 +2728,9 @@ pub +bare+call+calls+class-body+class-statement+create-assignment+declared+eleme
     (record-same-length-10 t)
     (record-returns-10 t)
     (record-same-length-11 t)
-    (record-returns-11 t))
+    (record-returns-11 t)
+    (record-same-length-12 t)
+    (record-returns-12 t))
     (λ t. records-lts.spec
     (record-below t, record.Post)
     (records-at t)

@@ -1,3 +1,11 @@
+-- `copied`: the invariant says that the words up to the place are written, and what is left.
+use Rattle.transform.specs.Copies.{Copying, copying-start, copying-next, copying-all}
+use Rattle.transform.specs.StepsRecords.{kind-small}
+use Rattle.transform.specs.StepsCalls.{wrote-length}
+use native.Mathlib.Omega.{arith}
+use borrow.Author.Needs.{needs}
+use Prim.Native.Nat.{_-_}
+use mathlib.Core.Path.{refl}
 use Rattle.transform.proofs.copied.Statement.{statement}
 use Rattle.transform.proofs.copied.Tie as tie
 use Rattle.transform.proofs.copied.Reads as reads
@@ -7,46 +15,41 @@ use Rattle.inspect.proofs.payload_at.Reads as payload-at-reads
 use Rattle.transform.proofs.put.Reads as put-reads
 
 abbrev Inv-loop : tie.InvT-loop
-Inv-loop ws at e s c out₀ pos i₀ p₀ out i p = ?
+Inv-loop ws at e s c out₀ pos i₀ p₀ out i p = Copying ws at e c out₀ pos i out p
 
 abbrev μ-loop : tie.MeasureT-loop
-μ-loop ws at e s c out₀ pos i₀ p₀ out i p = ?
+μ-loop ws at e s c out₀ pos i₀ p₀ out i p = e - i
 
--- src/lib.rt:173:5
 loop-holds : tie.Need-loop-holds Inv-loop μ-loop
-loop-holds c = ?
+loop-holds c = copying-start (c .before .before .pre .some)
 
--- src/lib.rt:176:13
 kind-at-requires : tie.Need-kind-at-requires Inv-loop μ-loop
-kind-at-requires c κs = ?
+kind-at-requires c κs = search needs
 
--- src/lib.rt:177:13
 payload-at-requires : tie.Need-payload-at-requires Inv-loop μ-loop
-payload-at-requires c κs = ?
+payload-at-requires c κs = search needs
 
--- src/lib.rt:174:9
 put-requires : tie.Need-put-requires Inv-loop μ-loop
-put-requires c κs = ?
+put-requires c κs =
+    let g = c .before .before .before .before .before .before .before .args in
+    let f = c .before .before .before .before .before .before .before .pre in
+    let l = c .before .before .before .before .loop in
+    (f .stack, omega (arith, f .fit, l .inv .end, l .inv .low, c .before .before .before .loop-test .taken), kind-small (g .ws .now) (l .i) (c .before .before .kind-at .result) (c .before .before .kind-at .ensures) (omega (arith, c .before .before .before .before .before .before .shared-slice-known .given (l .i))), c .before .payload-at .ensures .1)
 
--- src/lib.rt:181:9
 add-i : tie.Need-add-i Inv-loop μ-loop
-add-i c = ?
+add-i c = omega (arith, c .before .before .before .before .before .before .loop-test .taken, c .before .before .before .before .before .before .before .before .before .before .pre .inside, c .before .before .before .before .before .before .before .before .before .before .pre .few)
 
--- src/lib.rt:173:5
 loop-less : tie.Need-loop-less Inv-loop μ-loop
-loop-less c = ?
+loop-less c = omega (arith, c .before .before .before .before .before .before .loop-test .taken)
 
--- src/lib.rt:173:5
 loop-again : tie.Need-loop-again Inv-loop μ-loop
-loop-again c = ?
+loop-again c = copying-next (c .before .before .before .before .before .before .before .loop .inv) (c .before .before .before .before .before .before .loop-test .taken) (c .before .before .before .before .before .kind-at .ensures) (c .before .before .before .before .payload-at .ensures .0) (c .before .before .put .ensures)
 
--- src/lib.rt:167:1
 same-length : tie.Need-same-length Inv-loop μ-loop
-same-length c = ?
+same-length c = wrote-length (c .before .loop .inv .wrote)
 
--- src/lib.rt:167:1
 returns : tie.Need-returns Inv-loop μ-loop
-returns c = ?
+returns c = record { wrote = copying-all (c .before .loop .inv) (c .loop-test .left); place = refl; next = refl; default = refl; one = refl }
 
 pub copied-spec : {M : Type 1} → statement M
 copied-spec =
