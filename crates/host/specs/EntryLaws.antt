@@ -228,15 +228,15 @@ module _ {bs xs zs z y : List ℕ} {a : Answer} (c : Called bs xs zs z y a) wher
 -- ---- the rewriting. v are the words read
 
 module _ (bs v z y : List ℕ) (a : Answer) (read : v ≡ wordsOfBytes bs) where
-  pub rewriting-called : length bs % 4 ≡ 0 → length z ≡ 12288 → length y ≡ length z → a ≡ rewriteAnswer v z → y ≡ rewriteLent v z →
+  pub rewriting-called : length bs % 4 ≡ 0 → 3 * (length bs / 4) ≤ length z → length z ≤ 12288 → length y ≡ length z → a ≡ rewriteAnswer v z → y ≡ rewriteLent v z →
       Called bs (moduleWords (wordsOfBytes bs)) (moduleWords (wordsOfBytes bs)) z y a
   unfolding rewriteAnswer rewriteLent
-  rewriting-called even long kept numbers lent =
+  rewriting-called even long short kept numbers lent =
       let n : a ≡ answerOf (wordsOfBytes bs) (moduleWords (wordsOfBytes bs)) (length z) = numbers ∙ ap (λ (l : List ℕ). answerOf l (moduleWords l) (length z)) read in
       record {
         even = even;
-        bound = λ t. omega (arith, module-bound (wordsOfBytes bs) t, long);
-        short = omega (arith, long);
+        bound = λ t. omega (arith, module-length (wordsOfBytes bs) (not-turned-back (wordsOfBytes bs) t), length-words bs, long);
+        short = short;
         as-long = λ t. refl;
         numbers = n;
         lent = lent ∙ ap (λ (l : List ℕ). lentAfter (answerOf l (moduleWords l) (length z)) (moduleWords l) z) read ∙ ap (λ (r : Answer). lentAfter r (moduleWords (wordsOfBytes bs)) z) (sym n);
@@ -249,12 +249,12 @@ module _ (bs v z y : List ℕ) (a : Answer) (read : v ≡ wordsOfBytes bs) (w : 
   pub report-order : Reordered (w .order) (reportWords (wordsOfBytes bs))
   report-order = subst (λ (l : List ℕ). Reordered (w .order) (reportWords l)) read (w .same)
 
-  pub report-called : length bs % 4 ≡ 0 → length z ≡ 1365 → length y ≡ length z → a ≡ reportAnswer v z → Called bs (reportWords (wordsOfBytes bs)) (w .order) z y a
+  pub report-called : length bs % 4 ≡ 0 → length bs / 4 / 3 ≤ length z → length z ≤ 12288 → length y ≡ length z → a ≡ reportAnswer v z → Called bs (reportWords (wordsOfBytes bs)) (w .order) z y a
   unfolding reportAnswer
-  report-called even long kept numbers = record {
+  report-called even long short kept numbers = record {
     even = even;
-    bound = λ t. omega (arith, report-bound (wordsOfBytes bs) t, long);
-    short = omega (arith, long);
+    bound = λ t. omega (arith, report-length (wordsOfBytes bs) (not-turned-back (wordsOfBytes bs) t), length-words bs, long);
+    short = short;
     as-long = λ t. one-each (wordsOfBytes bs) (w .order) (not-turned-back (wordsOfBytes bs) t) report-order .as-many;
     numbers = numbers ∙ ap (λ (l : List ℕ). answerOf l (reportWords l) (length z)) read;
     lent = w .lent ∙ ap (λ (r : Answer). lentAfter r (w .order) z) (sym numbers);

@@ -1,7 +1,7 @@
 // The C entry: a module's bytes in, the bytes of what it becomes out, one number back. Keeps nothing between calls.
 use rewriter::Answer;
 ghost use mathlib.Core.Path.{_≡_};
-ghost use Prim.Native.Nat.{_+_, _*_, _/_, _≤_};
+ghost use Prim.Native.Nat.{_+_, _*_, _/_, _%_, _≤_};
 ghost use lib.Dec.{ltb};
 ghost use lib.ListN.{length, take};
 ghost use Rattle.output.specs.Overlay.{overlay};
@@ -11,6 +11,7 @@ ghost use Rattle.host.specs.Bytes.{wordFrom, wordsOfBytes, bytesFrom, by
 ghost use Rattle.host.specs.Entry.{numberOf, InFields, answerIn, isBadLength, rewriteBytes, rewriteBytesLent, reportBytes, ReportBytesLent};
 
 // Rewrites the module in `bytes`; the answer's bytes go to the start of `out`. The number holds the three answers.
+// A short module takes short arrays, which are cleared sooner.
 #[no_mangle]
 pub extern "C" fn gingerpost_rewrite(bytes: &[u8], out: &mut [u8]) -> u64
     ensures number { λ r. ⌜ r ≡ numberOf (rewriteBytes (now (bytes .entry)) (now (out .entry))) ⌝ }
@@ -20,12 +21,26 @@ pub extern "C" fn gingerpost_rewrite(bytes: &[u8], out: &mut [u8]) -> u64
     if is_bad_length(bytes.len()) {
         return 1;
     }
-    let n = bytes.len() >> 2;
+    if bytes.len() <= 256 {
+        let mut ws = [0u32; 64];
+        let mut written = [0u32; 192];
+        return rewrite_by(bytes, &mut ws, &mut written, out);
+    }
     let mut ws = [0u32; 4096];
-    pack(bytes, &mut ws);
-    // A rewritten module has at most three times the words read (`module-length`).
     let mut written = [0u32; 12288];
-    let r = rewriter::rewrite(&ws[..n], &mut written);
+    rewrite_by(bytes, &mut ws, &mut written, out)
+}
+
+// `gingerpost_rewrite` with the words lent: `ws` for those read, `written` for the answer's, at most three times as many (`module-length`).
+fn rewrite_by(bytes: &[u8], ws: &mut [u32], written: &mut [u32], out: &mut [u8]) -> u64
+    requires { ⌜ (length (now bytes) % 4 ≡ 0) × (length (now bytes) ≤ 4 * length (now ws)) × (3 * length (now ws) ≤ length (now written)) × (length (now written) ≤ 12288) ⌝ }
+    ensures number { λ r. ⌜ r ≡ numberOf (rewriteBytes (now (bytes .entry)) (now (out .entry))) ⌝ }
+    ensures lent { λ r. ⌜ now (out .exit) ≡ rewriteBytesLent (now (bytes .entry)) (now (out .entry)) ⌝ }
+    ensures demand { λ r. ⌜ (answerIn r .code ≡ 0 → DemandWords (wordsOfBytes (now (bytes .entry))) (take (answerIn r .written) (wordsOfBytes (now (out .exit))))) ⌝ }
+{
+    let n = bytes.len() >> 2;
+    pack(bytes, ws);
+    let r = rewriter::rewrite(&ws[..n], written);
     let m = r.written;
     if is_short(out.len(), m) {
         return 8;
@@ -43,12 +58,25 @@ pub extern "C" fn gingerpost_report(bytes: &[u8], out: &mut [u8]) -> u64
     if is_bad_length(bytes.len()) {
         return 1;
     }
-    let n = bytes.len() >> 2;
+    if bytes.len() <= 256 {
+        let mut ws = [0u32; 64];
+        let mut written = [0u32; 21];
+        return report_by(bytes, &mut ws, &mut written, out);
+    }
     let mut ws = [0u32; 4096];
-    pack(bytes, &mut ws);
-    // A report has at most a third of the words read (`report-length`).
     let mut written = [0u32; 1365];
-    let r = symbol_report::report(&ws[..n], &mut written);
+    report_by(bytes, &mut ws, &mut written, out)
+}
+
+// `gingerpost_report` with the words lent: `ws` for those read, `written` for the report's, at most a third of them (`report-length`).
+fn report_by(bytes: &[u8], ws: &mut [u32], written: &mut [u32], out: &mut [u8]) -> u64
+    requires { ⌜ (length (now bytes) % 4 ≡ 0) × (length (now bytes) ≤ 4 * length (now ws)) × (length (now ws) / 3 ≤ length (now written)) × (length (now written) ≤ 12288) ⌝ }
+    ensures number { λ r. ⌜ r ≡ numberOf (reportBytes (now (bytes .entry)) (now (out .entry))) ⌝ }
+    ensures lent { λ r. ⌜ ReportBytesLent (now (bytes .entry)) (now (out .entry)) (now (out .exit)) ⌝ }
+{
+    let n = bytes.len() >> 2;
+    pack(bytes, ws);
+    let r = symbol_report::report(&ws[..n], written);
     let m = r.written;
     if is_short(out.len(), m) {
         return 8;

@@ -22,8 +22,23 @@ pub struct Answer {
     pub fresh: u32,
 }
 
-// Rewrites the module in `ws`; the answer's words go to the start of `out`.
+// Rewrites the module in `ws`; the answer's words go to the start of `out`. A short module takes short notes, which are cleared sooner.
 pub fn rewrite(ws: &[u32], out: &mut [u32]) -> Answer
+    ensures numbers { λ r. ⌜ numbersOf r ≡ rewriteAnswer (now (ws .entry)) (now (out .entry)) ⌝ }
+    ensures lent { λ r. ⌜ now (out .exit) ≡ rewriteLent (now (ws .entry)) (now (out .entry)) ⌝ }
+    ensures demand { λ r. ⌜ (r .code ≡ 0 → DemandWords (now (ws .entry)) (take (r .written) (now (out .exit)))) ⌝ }
+{
+    if ws.len() <= 64 {
+        let mut notes = [0u32; 64];
+        return rewrite_by(ws, &mut notes, out);
+    }
+    let mut notes = [0u32; 4096];
+    rewrite_by(ws, &mut notes, out)
+}
+
+// `rewrite` with the notes lent: as many as the words of a module that is accepted.
+fn rewrite_by(ws: &[u32], notes: &mut [u32], out: &mut [u32]) -> Answer
+    requires { ⌜ (refusal (now ws) ≡ 0 → length (now ws) ≤ length (now notes)) ⌝ }
     ensures numbers { λ r. ⌜ numbersOf r ≡ rewriteAnswer (now (ws .entry)) (now (out .entry)) ⌝ }
     ensures lent { λ r. ⌜ now (out .exit) ≡ rewriteLent (now (ws .entry)) (now (out .entry)) ⌝ }
     ensures demand { λ r. ⌜ (r .code ≡ 0 → DemandWords (now (ws .entry)) (take (r .written) (now (out .exit)))) ⌝ }
@@ -36,16 +51,15 @@ pub fn rewrite(ws: &[u32], out: &mut [u32]) -> Answer
             fresh: 0,
         };
     }
-    let mut notes = [0u32; 4096];
-    annotate(ws, &mut notes);
-    if !has_room(ws, &notes, out.len()) {
+    annotate(ws, notes);
+    if !has_room(ws, notes, out.len()) {
         return Answer {
             code: 8,
             written: 0,
             fresh: 0,
         };
     }
-    let r = write_module(ws, &notes, out);
+    let r = write_module(ws, notes, out);
     Answer {
         code: 0,
         written: r.pos,

@@ -5,6 +5,7 @@ use inspect::NONE;
 use report_walk::Reported;
 use rewriter::Answer;
 ghost use mathlib.Core.Path.{_≡_};
+ghost use Prim.Native.Nat.{_≤_};
 ghost use lib.Dec.{leb};
 ghost use lib.ListN.{length};
 ghost use Rattle.grammar.specs.Scan.{refusal};
@@ -13,8 +14,22 @@ ghost use Rattle.counter.specs.Contract.{Planned};
 ghost use Rattle.rewriter.specs.Numbers.{numbersOf};
 ghost use Rattle.symbol_report.specs.Result.{WritesReport};
 
-// Writes the report of the module in `ws` to the start of `out`. The order of its words is free.
+// Writes the report of the module in `ws` to the start of `out`. The order of its words is free. A short module takes short notes, which are cleared sooner.
 pub fn report(ws: &[u32], out: &mut [u32]) -> Answer
+    ensures numbers { λ r. ⌜ numbersOf r ≡ reportAnswer (now (ws .entry)) (now (out .entry)) ⌝ }
+    ensures lent { λ r. ⌜ ReportLent (now (ws .entry)) (now (out .entry)) (now (out .exit)) ⌝ }
+{
+    if ws.len() <= 64 {
+        let mut notes = [0u32; 64];
+        return report_by(ws, &mut notes, out);
+    }
+    let mut notes = [0u32; 4096];
+    report_by(ws, &mut notes, out)
+}
+
+// `report` with the notes lent: as many as the words of a module that is accepted.
+fn report_by(ws: &[u32], notes: &mut [u32], out: &mut [u32]) -> Answer
+    requires { ⌜ (refusal (now ws) ≡ 0 → length (now ws) ≤ length (now notes)) ⌝ }
     ensures numbers { λ r. ⌜ numbersOf r ≡ reportAnswer (now (ws .entry)) (now (out .entry)) ⌝ }
     ensures lent { λ r. ⌜ ReportLent (now (ws .entry)) (now (out .entry)) (now (out .exit)) ⌝ }
 {
@@ -26,16 +41,15 @@ pub fn report(ws: &[u32], out: &mut [u32]) -> Answer
             fresh: 0,
         };
     }
-    let mut notes = [0u32; 4096];
-    alias_table::find_aliases(ws, &mut notes);
-    if !has_room(ws, &notes, out.len()) {
+    alias_table::find_aliases(ws, notes);
+    if !has_room(ws, notes, out.len()) {
         return Answer {
             code: 8,
             written: 0,
             fresh: 0,
         };
     }
-    let r = write_report(ws, &notes, out);
+    let r = write_report(ws, notes, out);
     Answer {
         code: 0,
         written: r.pos,

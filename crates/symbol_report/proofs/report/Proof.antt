@@ -1,88 +1,43 @@
--- `report`: turned back, too short, or written; the words are those of `write_report`, and the room is what `has_room` says.
-use mathlib.Core.Path.{sym, _∙_}
+-- `report`: at most 64 words, or at most 4,096 where the module is accepted; the rest is `report_by`.
 use native.Mathlib.Omega.{arith}
-use lib.ListN.{length}
-use borrow.Author.Tests.{leb-true, leb-false, not-true, not-false}
-use Rattle.rewriting.specs.Room.{not-turned-back}
-use Rattle.rewriting.specs.Answer.{reportWords, reportAnswer}
-use Rattle.rewriter.specs.Numbers.{numbersOf}
-use Rattle.rewriter.specs.Start.{well, start-fits}
-use Rattle.rewriter.specs.Result.{answer-back, answer-8, symbols-word}
-use Rattle.symbol_report.specs.Result.{report-back, report-whole}
+use Rattle.rewriter.specs.Start.{well}
 use borrow.Author.Needs.{needs}
 use Rattle.symbol_report.proofs.report.Statement.{statement}
 use Rattle.symbol_report.proofs.report.Tie as tie
 
-turned-back-requires : tie.Need-turned-back-requires
-turned-back-requires c κs = search needs
+slice-aggregate-report-by : tie.Need-slice-aggregate-report-by
+slice-aggregate-report-by c = search needs
 
-returns : tie.Need-returns
-unfolding numbersOf reportAnswer
-returns c =
-    let g = c .before .before .before .before .args in
-    let n = answer-back (g .ws .now) (reportWords (g .ws .now)) (g .out .now) (c .before .turned-back .result) (c .before .turned-back .ensures) (c .if1 .taken) in
-    (n, report-back (g .ws .now) (g .out .now) (record { code = c .before .turned-back .result; written = 0; fresh = 0 }) n (c .if1 .taken))
-
-slice-aggregate-find-aliases : tie.Need-slice-aggregate-find-aliases
-slice-aggregate-find-aliases c = search needs
-
-find-aliases-requires : tie.Need-find-aliases-requires
-find-aliases-requires c κs =
-    let ws = c .before .before .before .before .before .args .ws .now in
-    let ok = not-turned-back ws (sym (c .before .before .turned-back .ensures) ∙ c .before .if1 .left) in
-    (omega (arith, well ws ok .sized .few), start-fits ws ok)
-
-slice-aggregate-has-room : tie.Need-slice-aggregate-has-room
-slice-aggregate-has-room c = search needs
-
-has-room-requires : tie.Need-has-room-requires
-has-room-requires c κs = (not-turned-back (c .before .before .before .before .before .before .before .before .args .ws .now) (sym (c .before .before .before .before .before .turned-back .ensures) ∙ c .before .before .before .before .if1 .left), c .before .before .find-aliases .ensures .0)
-
-returns-2 : tie.Need-returns-2
-unfolding numbersOf reportAnswer
-returns-2 c =
-    let g = c .before .before .before .before .before .before .before .before .before .before .args in
-    let t = sym (c .before .before .before .before .before .before .before .turned-back .ensures) ∙ c .before .before .before .before .before .before .if1 .left in
-    let n = answer-8 (g .ws .now) (reportWords (g .ws .now)) (g .out .now) t (leb-false (length (reportWords (g .ws .now))) (length (g .out .now)) (sym (c .before .has-room .ensures) ∙ not-true _ (c .if2 .taken))) in
-    (n, report-back (g .ws .now) (g .out .now) (record { code = 8; written = 0; fresh = 0 }) n (λ z. omega arith))
-
-slice-aggregate-write-report : tie.Need-slice-aggregate-write-report
-slice-aggregate-write-report c = search needs
-
-write-report-requires : tie.Need-write-report-requires
-write-report-requires c κs = (not-turned-back (c .before .before .before .before .before .before .before .before .before .before .before .before .args .ws .now) (sym (c .before .before .before .before .before .before .before .before .before .turned-back .ensures) ∙ c .before .before .before .before .before .before .before .before .if1 .left), c .before .before .before .before .before .before .find-aliases .ensures .0)
-
-payload-at-requires : tie.Need-payload-at-requires
-payload-at-requires c κs = search needs
-
-sub-t19 : tie.Need-sub-t19
-sub-t19 c = omega (arith, c .before .before .before .before .write-report .ensures .next, c .before .payload-at .ensures .0, symbols-word (c .before .before .before .before .before .before .before .before .before .before .before .before .before .before .before .before .before .args .ws .now))
+report-by-requires : tie.Need-report-by-requires
+report-by-requires c κs = search needs
 
 same-length : tie.Need-same-length
 same-length c = search needs
 
-returns-3 : tie.Need-returns-3
-unfolding numbersOf reportAnswer
-returns-3 c =
-    let g = c .before .before .before .before .before .before .before .before .before .before .before .before .before .before .before .before .before .args in
-    let t = sym (c .before .before .before .before .before .before .before .before .before .before .before .before .before .before .turned-back .ensures) ∙ c .before .before .before .before .before .before .before .before .before .before .before .before .before .if1 .left in
-    let fits = leb-true (length (reportWords (g .ws .now))) (length (g .out .now)) (sym (c .before .before .before .before .before .before .before .before .has-room .ensures) ∙ not-false _ (c .before .before .before .before .before .before .before .if2 .left)) in
-    report-whole (g .ws .now) (g .out .now) (c .before .before .before .before .write-report .last .1 .1 .0) (c .before .before .before .before .write-report .result) (c .before .payload-at .result) t (c .before .before .before .before .write-report .ensures) (c .before .payload-at .ensures .0 ∙ symbols-word (g .ws .now)) fits
+returns : tie.Need-returns
+returns c = search needs
+
+slice-aggregate-report-by-2 : tie.Need-slice-aggregate-report-by-2
+slice-aggregate-report-by-2 c = search needs
+
+report-by-requires-2 : tie.Need-report-by-requires-2
+report-by-requires-2 c κs = λ ok. omega (arith, well (c .before .before .before .before .before .args .ws .now) ok .sized .few)
+
+same-length-2 : tie.Need-same-length-2
+same-length-2 c = search needs
+
+returns-2 : tie.Need-returns-2
+returns-2 c = search needs
 
 pub report-spec : {M : Type 1} → statement M
 report-spec =
     tie.close
     (tie.spec
-    turned-back-requires
-    returns
-    slice-aggregate-find-aliases
-    find-aliases-requires
-    slice-aggregate-has-room
-    has-room-requires
-    returns-2
-    slice-aggregate-write-report
-    write-report-requires
-    payload-at-requires
-    sub-t19
+    slice-aggregate-report-by
+    report-by-requires
     same-length
-    returns-3)
+    returns
+    slice-aggregate-report-by-2
+    report-by-requires-2
+    same-length-2
+    returns-2)
