@@ -13,8 +13,8 @@ use Rattle.records.specs.Forest.{end, node}
 use Rattle.records.specs.Label.{Label, Trees, is, _∶_}
 use Rattle.grammar.specs.Grammar.{Slot, Run, Row, row, noRow, leaf, expressions, oneExpression, statements, table, rowOf, slots, slotsBelow, symbols, classUnder, decorators, id, expression, body, Body}
 use Rattle.grammar.specs.WellFormed.{Allowed, Fits}
+use Rattle.grammar.specs.Children.{allowed-sole}
 use Rattle.grammar.specs.Rows.{each, each-row, implied, test-left, test-right, allowed-row, allowed-known, soleKind}
-use Rattle.walk_laws.specs.Slots.{sole-kind}
 use Rattle.alias_search.specs.Formed.{Each, isList, mayHold, OneClass, OneBody, FirstSymbols, Standing, Formed}
 
 -- ---- which kinds stand under which
@@ -74,13 +74,13 @@ module _ (l : Label) where
 one-class : (p : ℕ) (f : Trees) → Fits (classUnder p ∷ []) f → OneClass f
 unfolding Fits OneClass soleKind lookup is
 one-class p end h = absurd h
-one-class p (node c ck end) h = (eq-eqb (c .kind) 26 (sole-kind (classUnder p) c (h .0) tt), refl)
+one-class p (node c ck end) h = (eq-eqb (c .kind) 26 (allowed-sole (classUnder p) c (h .0) tt), refl)
 one-class p (node c ck (node x xk r)) h = absurd (h .2)
 
 first-symbols : (qs : List Slot) (f : Trees) → Fits (symbols ∷ qs) f → FirstSymbols f
 unfolding Fits FirstSymbols soleKind lookup is
 first-symbols qs end h = absurd h
-first-symbols qs (node l k r) h = eq-eqb (l .kind) 40 (sole-kind symbols l (h .0) tt)
+first-symbols qs (node l k r) h = eq-eqb (l .kind) 40 (allowed-sole symbols l (h .0) tt)
 
 -- a record that stands in no body's slot is no body
 not-body : (q : Slot) (l : Label) → Allowed q l → (q .category ≡ Body → ⊥) → is 29 l ≡ false

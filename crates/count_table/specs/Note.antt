@@ -1,10 +1,10 @@
 -- The note of a record from those of the records behind it, and the loop that fills them in from the last place to the first. Assumes nothing.
 use mathlib.Core.Path.{_≡_, refl, ap, sym, subst, _∙_}
-use mathlib.Core.Bool.{Bool, true, false, _&&_, _||_, cond, true≢false, or-false}
+use mathlib.Core.Bool.{Bool, true, false, _&&_, cond, true≢false, or-false}
 use mathlib.Core.Logic.{_⊎_, inl, inr}
 use mathlib.Core.Option.{Option, none, some}
-use mathlib.Core.List.{List, [], _∷_}
-use Prim.Native.Nat.{ℕ, zero, suc, _+_, _-_, _*_, _/_, _%_, _<_, _≤_}
+use mathlib.Core.List.{List}
+use Prim.Native.Nat.{ℕ, zero, suc, _+_, _-_, _*_, _%_, _<_, _≤_}
 use native.Mathlib.Omega.{arith}
 use lib.Dec.{eqb, leb}
 use lib.ListN.{length, getD, set, length-set}
@@ -13,7 +13,7 @@ use borrow.Author.Tests.{eqb-true, eqb-false, eq-eqb, ne-eqb, leb-true, le-leb}
 use Rattle.records.specs.Forest.{takeF, anyF}
 use Rattle.words.specs.Table.{lookup}
 use Rattle.words.specs.Word.{children, childTable}
-use Rattle.records.specs.Label.{Label, is, arity}
+use Rattle.records.specs.Label.{is, arity}
 use Rattle.records.specs.Place.{recordsAt, labelAt, arityAt, kidsAt, endOf, end-one, end-low, end-high}
 use Rattle.rewriting.specs.Parts.{idOf, isDecorated, isLive}
 use Rattle.inspect.specs.Inside.{anyWord, any-words}
@@ -22,10 +22,9 @@ use Rattle.walk_laws.specs.Still.{changes, changesKind}
 use Rattle.walk_laws.specs.After.{classAfter}
 use Rattle.walk_laws.specs.Kinds.{isElementKind, class-one, class-kind}
 use Rattle.counter.specs.Contract.{Below, stateOf, aliasIn, Planned, Ready, Counts, Free, Noted, Annotated, Walks, hasDefault, defaultFrom, Near, Totals, classCount}
-use Rattle.counter.specs.Steps.{ready-next, ready-on, count-other, count-dropped, count-expression, count-declared, count-live}
+use Rattle.counter.specs.Steps.{ready-next, count-other, count-dropped, count-expression, count-declared, count-live}
 use Rattle.counter.specs.Totals.{counts-same, from-none, has-none, Follows, follows, free-ready, free-next, class-symbols, note-alias, noted-by}
 use Rattle.counter.specs.declared.Scope.{Scope}
-use Rattle.counter.specs.declared.Counted.{Counted}
 use Rattle.counter.specs.declared.Total.{Total}
 
 -- what the note of a place is found from

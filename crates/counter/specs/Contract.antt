@@ -13,7 +13,7 @@ use Rattle.records.specs.Place.{recordsAt, labelAt, kidsAt, endOf}
 use Rattle.grammar.specs.Grammar.{module′}
 use Rattle.grammar.specs.WellFormed.{Fits}
 use Rattle.rewriting.specs.Parts.{elementsOf, idOf, isDecorated, isLive, classKids}
-use Rattle.rewriting.specs.Visit.{Around, State, visit}
+use Rattle.rewriting.specs.Visit.{Around, State}
 use Rattle.inspect.specs.Child.{optOf}
 use Rattle.walk_laws.specs.Rows.{visitAt, fresh}
 use Rattle.walk_laws.specs.After.{mentioned}

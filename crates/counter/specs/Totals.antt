@@ -1,9 +1,9 @@
 -- Counts that hold for every state in front: one law for each step of the walkers that total, and the notes that they read. Assumes nothing.
 use mathlib.Core.Path.{_≡_, refl, ap, sym, subst, _∙_}
-use mathlib.Core.Bool.{Bool, true, false, not, _||_, cond, _&&_, true≢false}
+use mathlib.Core.Bool.{Bool, true, false, not, _||_, _&&_, true≢false}
 use mathlib.Core.Logic.{_⊎_, inl, inr}
 use mathlib.Core.Option.{Option, none, some}
-use mathlib.Core.List.{List, [], _∷_}
+use mathlib.Core.List.{List}
 use Prim.Native.Nat.{ℕ, suc, _+_, _-_, _*_, _/_, _%_, _<_, _≤_}
 use native.Mathlib.Numerals.{add-one}
 use native.Mathlib.Nat.{add-zero}
@@ -12,19 +12,18 @@ use lib.Dec.{eqb}
 use lib.ListN.{length, getD}
 use borrow.Author.Tests.{eqb-true, eqb-false, eq-eqb, ne-eqb}
 use Rattle.records.specs.Forest.{takeF, anyF}
-use Rattle.records.specs.Label.{Label, Trees}
 use Rattle.records.specs.Place.{recordsAt, labelAt, arityAt, kidsAt, endOf, end-one, end-add, end-low, end-high}
-use Rattle.rewriting.specs.Parts.{idOf, isDecorated, isDecoratedMember, hasPlainKey, isLive}
-use Rattle.rewriting.specs.Visit.{Around, State, Result, classSymbol, visit, visitOne}
-use Rattle.inspect.specs.Child.{optOf, opt-is, opt-no, opt-some, opt-none}
-use Rattle.walk_laws.specs.Rows.{visitAt, one-after, kids-visit}
+use Rattle.rewriting.specs.Parts.{idOf, isDecoratedMember, hasPlainKey}
+use Rattle.rewriting.specs.Visit.{State, Result, classSymbol, visit}
+use Rattle.inspect.specs.Child.{optOf, opt-is, opt-no}
+use Rattle.walk_laws.specs.Rows.{one-after, kids-visit}
 use Rattle.walk_laws.specs.After.{keyAfter, memberAfter, classAfter, decoratedAfter, aliasAfter, defaultAfter}
-use Rattle.walk_laws.specs.Kinds.{isElementKind, element-after, class-one, class-kind}
+use Rattle.walk_laws.specs.Kinds.{isElementKind, element-after}
 use Rattle.walk_laws.specs.Quiet.{hasClass}
 use Rattle.walk_laws.specs.Still.{changes}
 use Rattle.walk_laws.specs.Around.{kids-same, after-same}
-use Rattle.counter.specs.Contract.{aroundOf, stateOf, Below, aliasIn, Planned, Ready, Counts, Free, Noted, Annotated, Walks, hasDefault, defaultFrom, Near, FromAny, Totals, keyCount, classCount}
-use Rattle.counter.specs.Steps.{counts-on, counts-low, counts-high, counts-within, below-more, ready-on, count-none, count-past, count-add, count-rest, count-other, count-dropped, count-plain, count-member, count-expression, count-declared, count-live, kids-one, arity-20, taken-id, taken-default, taken-fresh}
+use Rattle.counter.specs.Contract.{aroundOf, stateOf, Ready, Counts, Free, Noted, Annotated, Walks, hasDefault, defaultFrom, Near, FromAny, Totals, keyCount, classCount}
+use Rattle.counter.specs.Steps.{counts-on, counts-low, counts-high, counts-within, below-more, ready-on, count-none, count-past, count-add, count-other, count-plain, count-member, taken-id, taken-default, taken-fresh}
 use Rattle.counter.specs.declared.Scope.{Scope}
 use Rattle.counter.specs.declared.Counted.{Counted}
 use Rattle.counter.specs.declared.Total.{Total}

@@ -10,7 +10,7 @@ use lib.ListN.{replicate}
 use borrow.Author.Tests.{eqb-true, eq-eqb, ne-eqb}
 use Rattle.words.specs.Table.{lookup, both, every, below-all}
 use Rattle.words.specs.Shape.{bitOf, bit-one}
-use Rattle.grammar.specs.Grammar.{Slot, slot, row, noRow, table, rowOf, holds, allowed, any, zeroOnly, twoOrFour, methodFlags, twoFlags, oneFlag, classFlags, classStatement, inContext, decoratorCount}
+use Rattle.grammar.specs.Grammar.{slot, row, noRow, table, rowOf, holds, allowed, any, zeroOnly, twoOrFour, methodFlags, twoFlags, oneFlag, classFlags, classStatement, inContext, decoratorCount}
 use Rattle.grammar.specs.Rows.{test-left, test-right, implied, allowed-row, allowed-known, soleKind, kind-sole}
 use Rattle.grammar.specs.Scan.{place, tooManySymbols, decoratedConstructor}
 

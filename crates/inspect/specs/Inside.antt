@@ -5,9 +5,9 @@ use mathlib.Core.List.{List}
 use Prim.Native.Nat.{ℕ, zero, suc, _+_, _-_, _<_, _≤_}
 use native.Mathlib.Omega.{arith}
 use lib.ListN.{length}
-use Rattle.records.specs.Forest.{end, node, flat, size, takeF, dropF, appendF, anyF, anyF-append, size-append, size-node, take-drop, takeF-add, takeF-end}
+use Rattle.records.specs.Forest.{end, node, flat, size, takeF, dropF, appendF, anyF, anyF-append, take-drop, takeF-end}
 use Rattle.records.specs.Label.{Label, Trees}
-use Rattle.records.specs.Place.{recordsAt, labelAt, arityAt, kidsAt, endOf, records-node, records-past}
+use Rattle.records.specs.Place.{recordsAt, labelAt, arityAt, kidsAt, endOf, records-node, records-past, row-open, row-kids, size-open}
 use Rattle.rewriting.specs.Parts.{anyRecord}
 use Rattle.inspect.specs.Row.{Test, by-end}
 
@@ -24,21 +24,8 @@ module _ (p : Label → Bool) where
   any-node l kids rest = or-assoc (p l) (anyF p kids) (anyF p rest) ∙ ap (p l ||_) (sym (anyF-append p kids rest))
 
 module _ (ws : List ℕ) where
-  -- the first record and k others: its word, then its children and the others
-  open-row : (at k : ℕ) → at < length ws → takeF (suc k) (recordsAt ws at) ≡ node (labelAt ws at) (kidsAt ws at) (takeF k (dropF (arityAt ws at) (recordsAt ws (at + 1))))
-  open-row at k h = ap (takeF (suc k)) (records-node ws at h) ∙ (unfold takeF in refl)
-
-  behind : (at k : ℕ) → appendF (kidsAt ws at) (takeF k (dropF (arityAt ws at) (recordsAt ws (at + 1)))) ≡ takeF (arityAt ws at + k) (recordsAt ws (at + 1))
-  unfolding kidsAt
-  behind at k = sym (takeF-add (arityAt ws at) k (recordsAt ws (at + 1)))
-
   pub any-open : (p : Label → Bool) (at k : ℕ) → at < length ws → anyF p (takeF (suc k) (recordsAt ws at)) ≡ (p (labelAt ws at) || anyF p (takeF (arityAt ws at + k) (recordsAt ws (at + 1))))
-  any-open p at k h = ap (anyF p) (open-row at k h) ∙ any-node p (labelAt ws at) (kidsAt ws at) _ ∙ ap (λ (f : Trees). p (labelAt ws at) || anyF p f) (behind at k)
-
-  size-open : (at k : ℕ) → at < length ws → size (takeF (suc k) (recordsAt ws at)) ≡ suc (size (takeF (arityAt ws at + k) (recordsAt ws (at + 1))))
-  size-open at k h =
-      ap size (open-row at k h) ∙ size-node (labelAt ws at) (kidsAt ws at) (takeF k (dropF (arityAt ws at) (recordsAt ws (at + 1))))
-      ∙ ap suc (sym (size-append (kidsAt ws at) (takeF k (dropF (arityAt ws at) (recordsAt ws (at + 1))))) ∙ ap size (behind at k))
+  any-open p at k h = ap (anyF p) (row-open ws at k h) ∙ any-node p (labelAt ws at) (kidsAt ws at) _ ∙ ap (λ (f : Trees). p (labelAt ws at) || anyF p f) (row-kids ws at k)
 
   any-nothing : (p : Label → Bool) (at : ℕ) (f : Trees) → f ≡ end → anyF p f ≡ anyWord p ws at (size f)
   unfolding anyF size flat anyWord
@@ -54,7 +41,7 @@ module _ (ws : List ℕ) where
       here : at < length ws → anyF p (takeF (suc k) (recordsAt ws at)) ≡ anyWord p ws at (size (takeF (suc k) (recordsAt ws at)))
       here l =
           let first : anyWord p ws at (suc (size (takeF (arityAt ws at + k) (recordsAt ws (at + 1))))) ≡ (p (labelAt ws at) || anyWord p ws (at + 1) (size (takeF (arityAt ws at + k) (recordsAt ws (at + 1))))) = unfold anyWord in refl in
-          any-open p at k l ∙ ap (p (labelAt ws at) ||_) (later l (arityAt ws at + k)) ∙ sym (ap (anyWord p ws at) (size-open at k l) ∙ first)
+          any-open p at k l ∙ ap (p (labelAt ws at) ||_) (later l (arityAt ws at + k)) ∙ sym (ap (anyWord p ws at) (size-open ws at k l) ∙ first)
 
       past : length ws ≤ at → anyF p (takeF (suc k) (recordsAt ws at)) ≡ anyWord p ws at (size (takeF (suc k) (recordsAt ws at)))
       past l = any-nothing p at (takeF (suc k) (recordsAt ws at)) (ap (takeF (suc k)) (records-past ws at l) ∙ takeF-end (suc k))

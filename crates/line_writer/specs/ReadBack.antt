@@ -4,12 +4,12 @@ use mathlib.Core.Bool.{Bool, true, false, cond}
 use mathlib.Core.List.{List, [], _∷_, _++_, append-nil}
 use Prim.Native.Nat.{ℕ, zero, suc, _+_, _*_, _/_, _%_, _<_, _≤_}
 use native.Mathlib.Omega.{arith}
-use lib.Dec.{ltb, eqb}
-use borrow.Author.Tests.{lt-ltb, le-ltb, ltb-true, ltb-false, ne-eqb}
-use Rattle.words.specs.Word.{kindOf, payloadOf, wordOf, word-split, kind-lt, payload-lt}
+use lib.Dec.{ltb}
+use borrow.Author.Tests.{lt-ltb, le-ltb, ltb-true, ne-eqb}
+use Rattle.words.specs.Word.{kindOf, payloadOf, word-split, kind-lt, payload-lt}
 use Rattle.line_reader.specs.declared.Stage.{Stage}
 use Rattle.line_reader.specs.declared.Stage.the-variants.{Start, Kind, Colon, Payload}
-use Rattle.line_reader.specs.Line.{digitOf, stepped, within, atEnd, fromStart, fromKind, fromColon, fromPayload, isBlank}
+use Rattle.line_reader.specs.Line.{digitOf, stepped, within, atEnd, fromStart, fromKind, fromColon, fromPayload}
 use Rattle.line_reader.specs.Text.{wordOfLine, stageAfter, wordsBy, wordsAfter, stage-append, words-append}
 use Rattle.line_reader.specs.Says.{words, judged, textSays, text-said}
 use Rattle.line_writer.specs.Decimal.{decimal, lineOf, linesOf}

@@ -2,12 +2,12 @@
 use mathlib.Core.Path.{_≡_, refl, ap, _∙_}
 use mathlib.Core.Bool.{Bool}
 use mathlib.Core.List.{List, [], _∷_, _++_, map, map-append}
-use Prim.Native.Nat.{ℕ, zero, suc, _+_, _<_, _≤_}
+use Prim.Native.Nat.{ℕ, zero, suc, _+_, _<_}
 use native.Mathlib.Nat.{add-zero, add-suc, suc-add, le-of-suc-le-suc, not-suc-le-zero}
 use lib.Dec.{eqb}
 use lib.ListN.{length, getD, length-map}
 use Rattle.words.specs.Word.{kindOf, payloadOf, wordOf, word-split, children}
-use Rattle.records.specs.Forest.{Forest, end, node, appendF, countF}
+use Rattle.records.specs.Forest.{Forest, end, node, appendF}
 use Rattle.records.specs.Prefix.{Full}
 
 -- where a label comes from: read at a place of the module, or made by the rewriting

@@ -6,7 +6,7 @@ use native.Mathlib.Nat.{zero-add, add-zero}
 use native.Mathlib.Omega.{arith}
 use lib.ListN.{length, getD}
 use Rattle.words.specs.Word.{kindOf, payloadOf, children}
-use Rattle.records.specs.Forest.{Forest, end, node, flat, size, takeF, dropF, appendF, countF, size-node, size-append, size-take-drop, takeF-add, takeF-end, dropF-all, count-size}
+use Rattle.records.specs.Forest.{end, node, flat, size, takeF, dropF, appendF, size-node, size-append, size-take-drop, takeF-add, takeF-end, dropF-all, count-size}
 use Rattle.records.specs.Prefix.{stackAt, stackAt-node, stackAt-past, stackAt-drop, size-stackAt}
 use Rattle.records.specs.Label.{Label, Trees, arity, readAt, readFrom, length-read, getD-read, _∶_}
 
@@ -115,6 +115,19 @@ module _ (ws : List ℕ) where
   -- the records at `at`: the first, and those behind it
   pub records-first : (at n : ℕ) → at < length ws → takeF (suc n) (recordsAt ws at) ≡ node (labelAt ws at) (kidsAt ws at) (takeF n (recordsAt ws (endOf ws at 1)))
   records-first at n h = ap (takeF (suc n)) (records-node at h) ∙ (unfold takeF in ap (λ (f : Trees). node (labelAt ws at) (kidsAt ws at) (takeF n f)) (rest-place at h))
+
+  -- the first record and k others: its word, then its children and the others
+  pub row-open : (at k : ℕ) → at < length ws → takeF (suc k) (recordsAt ws at) ≡ node (labelAt ws at) (kidsAt ws at) (takeF k (dropF (arityAt ws at) (recordsAt ws (at + 1))))
+  row-open at k h = ap (takeF (suc k)) (records-node at h) ∙ (unfold takeF in refl)
+
+  pub row-kids : (at k : ℕ) → appendF (kidsAt ws at) (takeF k (dropF (arityAt ws at) (recordsAt ws (at + 1)))) ≡ takeF (arityAt ws at + k) (recordsAt ws (at + 1))
+  unfolding kidsAt
+  row-kids at k = sym (takeF-add (arityAt ws at) k (recordsAt ws (at + 1)))
+
+  pub size-open : (at k : ℕ) → at < length ws → size (takeF (suc k) (recordsAt ws at)) ≡ suc (size (takeF (arityAt ws at + k) (recordsAt ws (at + 1))))
+  size-open at k h =
+      ap size (row-open at k h) ∙ size-node (labelAt ws at) (kidsAt ws at) (takeF k (dropF (arityAt ws at) (recordsAt ws (at + 1))))
+      ∙ ap suc (sym (size-append (kidsAt ws at) (takeF k (dropF (arityAt ws at) (recordsAt ws (at + 1))))) ∙ ap size (row-kids at k))
 
   pub record-one : (at : ℕ) → at < length ws → takeF 1 (recordsAt ws at) ≡ node (labelAt ws at) (kidsAt ws at) end
   record-one at h = ap (takeF 1) (records-node at h) ∙ (unfold takeF in refl)

@@ -1,24 +1,21 @@
 -- What the walkers leave of a whole module, and the answers that follow. Assumes nothing.
 use mathlib.Core.Path.{_≡_, refl, ap, sym, subst, _∙_}
-use mathlib.Core.Bool.{Bool, true, false, cond}
-use mathlib.Core.Option.{Option, none, some}
+use mathlib.Core.Bool.{true, false}
+use mathlib.Core.Option.{Option, none}
 use mathlib.Core.List.{List, [], _∷_, _++_, map, append-nil, append-assoc}
-use Prim.Native.Nat.{ℕ, zero, suc, _+_, _-_, _*_, _<_, _≤_}
+use Prim.Native.Nat.{ℕ, zero, suc, _+_, _-_, _<_, _≤_}
 use native.Mathlib.Omega.{arith}
-use lib.Dec.{eqb, ltb}
-use borrow.Author.Tests.{eqb-true, eq-eqb, ne-eqb, ltb-true, ltb-false, lt-ltb, le-ltb}
-use lib.ListN.{length, getD, take, set, length-set, length-map}
+use lib.Dec.{eqb}
+use borrow.Author.Tests.{eq-eqb, ne-eqb, lt-ltb, le-ltb}
+use lib.ListN.{length, take, set, length-set, length-map}
 use lib.Seq.{take-suc-set}
 use native.Mathlib.Nat.{add-zero}
-use Rattle.words.specs.Word.{payloadOf}
-use Rattle.records.specs.Forest.{Forest, end, node, flat, takeF, countF, size, heightF}
+use Rattle.records.specs.Forest.{flat, takeF, size}
 use Rattle.records.specs.Label.{Label, Trees, wordAt, words, _∶_, readAt}
-use Rattle.records.specs.Place.{recordsAt, labelAt, endOf}
-use Rattle.output.specs.Overlay.{overlay, Wrote, length-overlay}
-use Rattle.grammar.specs.Limits.{maxDepth}
-use Rattle.grammar.specs.Grammar.{module′}
+use Rattle.records.specs.Place.{recordsAt, labelAt}
+use Rattle.output.specs.Overlay.{overlay, Wrote}
 use Rattle.grammar.specs.Scan.{refusal, symbolsOf}
-use Rattle.grammar.specs.WellFormed.{treeOf, Fits, WellFormed}
+use Rattle.grammar.specs.WellFormed.{treeOf}
 use Rattle.rewriting.specs.Visit.{Around, State, Result, visit, moduleOf, visitWords, outermost, rewritten, reported}
 use Rattle.rewriting.specs.Fresh.{fresh-length}
 use Rattle.rewriting.specs.Length.{module-length}
@@ -28,18 +25,18 @@ use Rattle.rewriting.specs.DemandWords.{DemandWords}
 use Rattle.rewriting.specs.DemandAccepted.{demand-words}
 use Rattle.class_stack.specs.Renaming.{Sub, capacity, Ready as StackReady, entries, subs}
 use Rattle.class_stack.specs.declared.ClassStack.{ClassStack}
-use Rattle.inspect.specs.Child.{optOf, opt-none}
+use Rattle.inspect.specs.Child.{opt-none}
 use Rattle.walk_laws.specs.Rows.{visitAt}
 use Rattle.walk_laws.specs.Written.{wordBy, written}
-use Rattle.counter.specs.Contract.{aroundOf, stateOf, Planned, Annotated, Ready}
+use Rattle.counter.specs.Contract.{aroundOf, stateOf, Planned, Annotated}
 use Rattle.counter.specs.declared.Scope.{Scope}
 use Rattle.counter.specs.declared.Count.{Count}
-use Rattle.transform.specs.Under.{wordUnder, written-same, under-none}
+use Rattle.transform.specs.Under.{wordUnder, under-none}
 use Rattle.transform.specs.Nest.{nestAt, nest, nest-height}
 use Rattle.transform.specs.Contract.{wordBelow, wordsOf, stateIn, hereAt, afterAt, Asks, Emitted}
 use Rattle.transform.specs.Steps.{length-words}
 use Rattle.transform.specs.declared.Went.{Went}
-use Rattle.rewriter.specs.Start.{well, records-tree, records-module, start-ready, whole-record, start-inside}
+use Rattle.rewriter.specs.Start.{well, records-tree, records-module, start-ready, whole-record}
 
 -- the module's words were written from the start of o on; r says how many they are, and the next symbol
 pub record Writes (ws o o′ : List ℕ) (r : Went) : Type 0 where

@@ -1,24 +1,23 @@
 -- What an accepted module gives the walkers at its start. Assumes nothing.
-use mathlib.Core.Path.{_≡_, refl, ap, sym, subst, _∙_}
+use mathlib.Core.Path.{_≡_, refl, sym, subst, _∙_}
 use mathlib.Core.Bool.{Bool, true, false, cond}
-use mathlib.Core.Option.{Option, none, some}
-use mathlib.Core.List.{List, [], _∷_, _++_}
-use Prim.Native.Nat.{ℕ, zero, suc, _+_, _-_, _*_, _<_, _≤_}
+use mathlib.Core.Option.{none, some}
+use mathlib.Core.List.{List, [], _∷_}
+use Prim.Native.Nat.{ℕ, zero, suc, _+_, _-_, _<_, _≤_}
 use native.Mathlib.Numerals.{add-one}
 use native.Mathlib.Omega.{arith}
-use lib.Dec.{eqb, ltb}
-use borrow.Author.Tests.{eqb-true, eq-eqb, ltb-true, ltb-false}
-use lib.ListN.{length, getD, drop}
+use lib.Dec.{ltb}
+use borrow.Author.Tests.{eqb-true, ltb-true, ltb-false}
+use lib.ListN.{length}
 use Rattle.words.specs.Table.{lookup}
-use Rattle.records.specs.Forest.{Forest, end, node, takeF, dropF, appendF, countF, size, heightF, take-drop}
-use Rattle.records.specs.Prefix.{build, stackAt}
-use Rattle.records.specs.Label.{Label, Trees, is, readFrom, arity}
-use Rattle.records.specs.Place.{recordsAt, labelAt, arityAt, kidsAt, endOf, records-node, records-past, kids-past}
-use Rattle.grammar.specs.Limits.{maxWords, maxDepth, maxSymbols}
-use Rattle.grammar.specs.Grammar.{Slot, module′, isSymbol}
+use Rattle.records.specs.Forest.{end, node, takeF, dropF, appendF, take-drop}
+use Rattle.records.specs.Prefix.{stackAt}
+use Rattle.records.specs.Label.{Label, Trees, is}
+use Rattle.records.specs.Place.{recordsAt, arityAt, kidsAt, records-node, kids-past}
+use Rattle.grammar.specs.Grammar.{module′, isSymbol}
 use Rattle.grammar.specs.Scan.{refusal, symbolsOf}
-use Rattle.grammar.specs.WellFormed.{treeOf, Fits, Each, Known, Sized, WellFormed}
-use Rattle.grammar.specs.Accepted.{accepted, accepted-full, fits-count}
+use Rattle.grammar.specs.WellFormed.{treeOf, Fits, Each, Known, WellFormed}
+use Rattle.grammar.specs.Accepted.{accepted}
 use Rattle.rewriting.specs.Parts.{symbolIf, idOf}
 use Rattle.rewriting.specs.Visit.{moduleOf}
 use Rattle.counter.specs.Contract.{Below, Planned, Ready}

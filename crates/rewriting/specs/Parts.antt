@@ -1,13 +1,11 @@
 -- The parts of records that the rules of document 01 speak of: decorators, parameters, members, the parts of a class. Definitions only.
-use mathlib.Core.Path.{_≡_}
 use mathlib.Core.Bool.{Bool, true, false, _&&_, _||_, not, cond}
 use mathlib.Core.Option.{Option, none, some}
-use mathlib.Core.List.{List, [], _∷_}
-use Prim.Native.Nat.{ℕ, zero, suc, _+_}
-use lib.Dec.{eqb}
+use mathlib.Core.List.{[], _∷_}
+use Prim.Native.Nat.{ℕ, suc}
 use Rattle.words.specs.Table.{lookup}
 use Rattle.words.specs.Word.{bit0, bit1}
-use Rattle.records.specs.Forest.{Forest, end, node, dropF, appendF, countF, anyF}
+use Rattle.records.specs.Forest.{end, node, dropF, appendF, countF, anyF}
 use Rattle.records.specs.Label.{Label, Trees, _∶_, repay, is, bit}
 
 -- ---- forests of records

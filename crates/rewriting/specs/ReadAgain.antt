@@ -15,7 +15,7 @@ use Rattle.records.specs.Forest.{end, node, flat, size, countF, takeF, dropF, s
 use Rattle.records.specs.Prefix.{build, push, Full, build-flat}
 use Rattle.records.specs.Label.{Label, Trees, _∶_, readAt, readFrom, wordAt, words, words-append, length-words, arity}
 use Rattle.grammar.specs.Limits.{maxWords}
-use Rattle.grammar.specs.Grammar.{Slot, slot, Run, Row, row, noRow, statements, table, rowOf, holds, allowed, slots, slotsBelow, isSymbol, module′}
+use Rattle.grammar.specs.Grammar.{Slot, Run, Row, row, noRow, table, rowOf, holds, allowed, slots, slotsBelow, isSymbol, module′}
 use Rattle.grammar.specs.Scan.{Place, place, top, places, below, belowAt, faultOf, faultAt, judge, symbolsOf, refusal}
 use Rattle.grammar.specs.WellFormed.{treeOf, Allowed, Fits, Each, Known, WellFormed}
 use Rattle.grammar.specs.Rows.{All, all-rows, allowed-row}

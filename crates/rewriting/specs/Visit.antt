@@ -5,8 +5,8 @@ use mathlib.Core.Option.{Option, none, some}
 use mathlib.Core.List.{List, [], _∷_, _++_, map}
 use Prim.Native.Nat.{ℕ, zero, suc, _+_}
 use lib.Dec.{eqb}
-use Rattle.words.specs.Word.{bit0, bit1}
-use Rattle.records.specs.Forest.{Forest, end, node, flat, takeF, dropF, appendF, countF, anyF, mapF}
+use Rattle.words.specs.Word.{bit0}
+use Rattle.records.specs.Forest.{end, node, flat, takeF, dropF, appendF, countF, anyF, mapF}
 use Rattle.records.specs.Prefix.{build}
 use Rattle.records.specs.Label.{Label, Origin, made, read, Trees, _∶_, repay, become, is, bit, readFrom, words, arity}
 use Rattle.rewriting.specs.Parts.{tree, isEmpty, recount, Role, module′, list, statement, expression, method, constructor, plain, field, roleOf, decorators, undecorate, decoratorsOf, bareMethod, bareField, isDecoratedMember, hasPlainKey, elementsOf, withElements, idOf, hasPrivateIn, hasStatic, firstConstructor, bareFirst, isDecorated, isLive, classKids}

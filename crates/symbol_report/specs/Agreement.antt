@@ -3,11 +3,11 @@
 use mathlib.Core.Path.{_≡_, sym, subst, _∙_}
 use mathlib.Core.Bool.{true}
 use mathlib.Core.List.{List}
-use Prim.Native.Nat.{ℕ, _+_, _<_, _≤_}
+use Prim.Native.Nat.{ℕ, _<_, _≤_}
 use native.Mathlib.Omega.{arith}
 use lib.ListN.{length, getD}
 use Rattle.words.specs.Word.{kindOf, payloadOf}
-use Rattle.records.specs.Label.{Label, readAt}
+use Rattle.records.specs.Label.{readAt}
 use Rattle.records.specs.Place.{recordsAt, labelAt, records-node}
 use Rattle.grammar.specs.Grammar.{isSymbol}
 use Rattle.grammar.specs.Scan.{refusal, symbolsOf}

@@ -1,21 +1,21 @@
 -- What the report's walkers leave of a whole module, and the answers that follow. Assumes nothing.
 use mathlib.Core.Path.{_≡_, refl, ap, sym, subst, _∙_}
 use mathlib.Core.List.{List}
-use Prim.Native.Nat.{ℕ, _+_, _-_, _*_, _<_, _≤_}
+use Prim.Native.Nat.{ℕ, _+_, _-_, _≤_}
 use native.Mathlib.Omega.{arith}
 use lib.ListN.{length}
-use Rattle.records.specs.Label.{Label, words}
+use Rattle.records.specs.Label.{words}
 use Rattle.output.specs.Overlay.{Wrote}
 use Rattle.grammar.specs.Scan.{refusal, symbolsOf}
-use Rattle.rewriting.specs.Visit.{Result, visitWords, reported}
-use Rattle.rewriting.specs.Answer.{Answer, turnedBack, reportWords, answerOf, reportAnswer, Reordered, lentAfter, ReportLent}
+use Rattle.rewriting.specs.Visit.{Result, reported}
+use Rattle.rewriting.specs.Answer.{Answer, turnedBack, reportWords, answerOf, reportAnswer, Reordered, ReportLent}
 use Rattle.transform.specs.Contract.{stateIn}
 use Rattle.counter.specs.Contract.{aroundOf, stateOf, Planned}
 use Rattle.report_walk.specs.Contract.{reportAt, Asks, Reports}
 use Rattle.report_walk.specs.Steps.{reports-pos}
 use Rattle.report_walk.specs.declared.Reported.{Reported}
 use Rattle.rewriter.specs.Start.{well, start-ready}
-use Rattle.rewriter.specs.Result.{startScope, startCount, visit-start, answer-0, lent-back, lent-0}
+use Rattle.rewriter.specs.Result.{startScope, visit-start, answer-0, lent-back, lent-0}
 
 -- the module's report was written from the start of o on; r says how many words it has, and the next symbol
 pub record WritesReport (ws o o′ : List ℕ) (r : Reported) : Type 0 where

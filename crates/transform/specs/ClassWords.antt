@@ -1,27 +1,23 @@
 -- The words of a class statement by the plan of its class, as the walkers write them. Definitions only.
 use mathlib.Core.Path.{_≡_}
-use mathlib.Core.Bool.{Bool, true, false, _&&_, _||_, not, cond}
-use mathlib.Core.Option.{Option, none, some}
+use mathlib.Core.Bool.{Bool, true, _&&_, _||_, not, cond}
 use mathlib.Core.List.{List, [], _∷_, _++_}
 use Prim.Native.Nat.{ℕ, _+_, _-_, _<_, _≤_}
 use lib.Dec.{eqb}
-use lib.ListN.{length, getD}
-use Rattle.words.specs.Word.{bit0, bit2}
-use Rattle.records.specs.Forest.{Forest, countF}
+use lib.ListN.{getD}
+use Rattle.records.specs.Forest.{countF}
 use Rattle.records.specs.Label.{Trees}
-use Rattle.records.specs.Place.{recordsAt, labelAt, arityAt, kidsAt, endOf}
+use Rattle.records.specs.Place.{arityAt, kidsAt}
 use Rattle.rewriting.specs.Parts.{elementsOf, idOf, hasPrivateIn, hasStatic, firstConstructor, bareFirst, isDecorated}
-use Rattle.rewriting.specs.Visit.{Around, State}
 use Rattle.class_stack.specs.declared.ClassStack.{ClassStack}
 use Rattle.inspect.specs.Child.{optOf}
 use Rattle.inspect.specs.Class.{countCalled}
-use Rattle.walk_laws.specs.Rows.{visitAt}
 use Rattle.walk_laws.specs.Written.{written}
-use Rattle.walk_laws.specs.Classes.{Plan, planOf, under, optional, blockWords, exportWords, isSome, one, rk, plan, queue}
-use Rattle.counter.specs.Contract.{aroundOf, stateOf, aliasIn}
+use Rattle.walk_laws.specs.Classes.{planOf, under, optional, blockWords, isSome, one, rk, plan, queue}
+use Rattle.counter.specs.Contract.{stateOf, aliasIn}
 use Rattle.counter.specs.declared.Scope.{Scope}
 use Rattle.counter.specs.declared.Count.{Count}
-use Rattle.transform.specs.Contract.{wordBelow, wordsOf, hereAt, callsAt, afterAt, kidsHere}
+use Rattle.transform.specs.Contract.{wordBelow, wordsOf, callsAt, kidsHere}
 use Rattle.transform.specs.declared.ClassPlan.{ClassPlan}
 
 -- the class of a plan, and the stack in its body

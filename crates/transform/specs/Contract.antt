@@ -1,16 +1,15 @@
 -- The contracts of the walkers that write: what they ask of the words and the class stack, and what they leave. Definitions only.
 use mathlib.Core.Path.{_≡_}
-use mathlib.Core.Bool.{Bool, true, false, _&&_, not, cond}
-use mathlib.Core.List.{List, [], _∷_, _++_}
+use mathlib.Core.Bool.{Bool, _&&_, not}
+use mathlib.Core.List.{List, _∷_, _++_}
 use Prim.Native.Nat.{ℕ, _+_, _-_, _<_, _≤_}
-use lib.ListN.{length}
-use Rattle.records.specs.Forest.{Forest, countF, size}
+use Rattle.records.specs.Forest.{countF}
 use Rattle.records.specs.Label.{Trees}
-use Rattle.records.specs.Place.{recordsAt, labelAt, arityAt, kidsAt, endOf}
+use Rattle.records.specs.Place.{labelAt, kidsAt, endOf}
 use Rattle.output.specs.Overlay.{Wrote}
 use Rattle.rewriting.specs.Parts.{isDecoratedMember, hasPlainKey}
-use Rattle.rewriting.specs.Visit.{Around, State, visit}
-use Rattle.class_stack.specs.Renaming.{Sub, capacity, Ready as StackReady, subs}
+use Rattle.rewriting.specs.Visit.{State, visit}
+use Rattle.class_stack.specs.Renaming.{capacity, Ready as StackReady, subs}
 use Rattle.class_stack.specs.declared.ClassStack.{ClassStack}
 use Rattle.walk_laws.specs.Rows.{visitAt}
 use Rattle.walk_laws.specs.Written.{wordBy, written}

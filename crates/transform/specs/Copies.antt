@@ -1,24 +1,21 @@
 -- A record in which nothing changes: its words are written as they were read, under the classes around. Assumes nothing.
 use mathlib.Core.Path.{_≡_, refl, ap, sym, subst, _∙_}
-use mathlib.Core.Bool.{Bool, true, false}
+use mathlib.Core.Bool.{true}
 use mathlib.Core.List.{List, [], _∷_, _++_, append-nil, append-assoc}
-use Prim.Native.Nat.{ℕ, suc, _+_, _-_, _/_, _<_, _≤_}
+use Prim.Native.Nat.{ℕ, _+_, _-_, _/_, _<_, _≤_}
 use native.Mathlib.Omega.{arith}
 use lib.ListN.{length}
-use Rattle.records.specs.Forest.{end, node, takeF, countF, anyF, size}
-use Rattle.records.specs.Label.{Label, Trees}
-use Rattle.records.specs.Place.{recordsAt, labelAt, kidsAt, endOf, record-one, end-low, end-high}
+use Rattle.records.specs.Forest.{end, takeF, countF, size}
+use Rattle.records.specs.Place.{recordsAt, labelAt, endOf, record-one, end-low, end-high}
 use Rattle.output.specs.Overlay.{Wrote, wrote-none, wrote-then}
 use Rattle.class_stack.specs.Renaming.{Ready as StackReady}
 use Rattle.class_stack.specs.declared.ClassStack.{ClassStack}
-use Rattle.rewriting.specs.Visit.{State}
-use Rattle.walk_laws.specs.Written.{written, length-written}
+use Rattle.walk_laws.specs.Written.{written}
 use Rattle.walk_laws.specs.Still.{changes, wordsFrom, written-row, from-first, from-none, still-here, still-after}
 use Rattle.counter.specs.Contract.{aroundOf, stateOf, stillIn, Noted}
-use Rattle.counter.specs.Totals.{note-at}
 use Rattle.counter.specs.declared.Scope.{Scope}
 use Rattle.counter.specs.declared.Count.{Count}
-use Rattle.transform.specs.Contract.{wordBelow, wordsOf, stateIn, hereAt, afterAt, Asks, Moved, Emitted}
+use Rattle.transform.specs.Contract.{wordBelow, wordsOf, stateIn, hereAt, afterAt, Asks, Emitted}
 use Rattle.transform.specs.declared.Went.{Went}
 
 -- what the walker that copies asks: a place and an end behind it, and room for the words between them

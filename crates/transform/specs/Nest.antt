@@ -8,7 +8,7 @@ use lib.ListN.{length, replicate}
 use lib.Dec.{T, eqb, ltb, ltb→lt}
 use borrow.Author.Tests.{eqb-true, eq-eqb}
 use Rattle.words.specs.Table.{lookup}
-use Rattle.records.specs.Forest.{Forest, end, node, takeF, dropF, appendF, heightF, takeF-add, take-drop}
+use Rattle.records.specs.Forest.{end, node, takeF, dropF, appendF, heightF, takeF-add}
 use Rattle.records.specs.Label.{Label, Trees, is}
 use Rattle.grammar.specs.Grammar.{Slot, Run, Row, row, noRow, leaf, expressions, oneExpression, statements, table, rowOf, slots, slotsBelow, module′}
 use Rattle.grammar.specs.WellFormed.{Allowed, Fits}

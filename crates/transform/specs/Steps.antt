@@ -1,29 +1,26 @@
 -- Laws for the steps of the walkers that write: what they may ask further on, rows of records, one record. Assumes nothing.
 use mathlib.Core.Path.{_≡_, refl, ap, sym, subst, _∙_}
-use mathlib.Core.Bool.{Bool, true, false}
-use mathlib.Core.List.{List, [], _∷_, _++_, append-nil}
-use Prim.Native.Nat.{ℕ, zero, suc, _+_, _-_, _*_, _<_, _≤_, max}
-use native.Mathlib.Numerals.{add-one}
+use mathlib.Core.List.{List, [], _++_}
+use Prim.Native.Nat.{ℕ, _+_, _-_, _*_, _<_, _≤_}
 use native.Mathlib.Omega.{arith}
 use lib.ListN.{length}
-use Rattle.records.specs.Forest.{Forest, end, node, flat, takeF, appendF, countF, size, countF-append, size-append}
-use Rattle.records.specs.Label.{Label, Trees}
-use Rattle.records.specs.Place.{recordsAt, labelAt, arityAt, kidsAt, endOf, end-none, end-past, end-add, end-one, end-low, end-high}
+use Rattle.records.specs.Forest.{end, flat, takeF, appendF, countF, size, countF-append, size-append}
+use Rattle.records.specs.Label.{Trees}
+use Rattle.records.specs.Place.{recordsAt, labelAt, arityAt, kidsAt, endOf, end-none, end-past, end-add, end-low, end-high}
 use Rattle.output.specs.Overlay.{Wrote, wrote-none, wrote-then}
-use Rattle.rewriting.specs.Visit.{Around, State, Result, visit, visitOne}
-use Rattle.rewriting.specs.Facts.{Within, counter}
-use Rattle.class_stack.specs.Renaming.{Ready as StackReady, subs}
+use Rattle.rewriting.specs.Visit.{State, Result, visit, visitOne}
+use Rattle.rewriting.specs.Facts.{counter}
 use Rattle.class_stack.specs.declared.ClassStack.{ClassStack}
 use Rattle.walk_laws.specs.Rows.{visitAt, row-none, row-past, here-add, calls-add, after-add, one-here, one-calls, one-after, kids-visit}
-use Rattle.walk_laws.specs.Written.{wordBy, written, written-append, length-written}
-use Rattle.counter.specs.Contract.{aroundOf, stateOf, Ready, Counts, Annotated}
+use Rattle.walk_laws.specs.Written.{written, written-append, length-written}
+use Rattle.counter.specs.Contract.{aroundOf, stateOf, Counts, Annotated}
 use Rattle.counter.specs.Steps.{ready-on}
 use Rattle.counter.specs.Totals.{noted-on}
 use Rattle.counter.specs.declared.Scope.{Scope}
 use Rattle.counter.specs.declared.Count.{Count}
 use Rattle.counter.specs.declared.Counted.{Counted}
 use Rattle.transform.specs.Nest.{nestAt, nest-part, nest-kids}
-use Rattle.transform.specs.Contract.{wordBelow, wordsOf, stateIn, hereAt, callsAt, afterAt, Asks, Moved, Emitted, Queues, kidsHere}
+use Rattle.transform.specs.Contract.{wordBelow, wordsOf, stateIn, hereAt, callsAt, afterAt, Asks, Emitted, kidsHere}
 use Rattle.transform.specs.declared.Went.{Went}
 
 -- ---- lengths

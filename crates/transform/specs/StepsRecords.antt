@@ -1,41 +1,41 @@
 -- Laws for the walkers of records that are kept, of lists, of a module and of classes that aren't live. Assumes nothing.
 use mathlib.Core.Path.{_≡_, refl, ap, sym, subst, _∙_}
-use mathlib.Core.Bool.{Bool, true, false, _&&_, _||_, not, cond}
+use mathlib.Core.Bool.{true, false}
 use mathlib.Core.Option.{Option, none, some}
-use mathlib.Core.Logic.{_⊎_, inl, inr, ⊎-elim}
-use mathlib.Core.List.{List, [], _∷_, _++_, append-nil}
-use Prim.Native.Nat.{ℕ, zero, suc, _+_, _-_, _*_, _<_, _≤_}
+use mathlib.Core.Logic.{_⊎_, inl, ⊎-elim}
+use mathlib.Core.List.{List, [], _∷_, _++_}
+use Prim.Native.Nat.{ℕ, suc, _+_, _-_, _*_, _<_, _≤_}
 use native.Mathlib.Omega.{arith}
-use lib.Dec.{eqb}
-use borrow.Author.Tests.{eq-eqb, ne-eqb, eqb-true}
+use borrow.Author.Tests.{eq-eqb, ne-eqb}
 use lib.ListN.{length, getD, replicate}
 use Rattle.words.specs.Table.{lookup}
 use Rattle.words.specs.Word.{bit1, children, childTable}
-use Rattle.records.specs.Forest.{Forest, end, node, flat, takeF, appendF, countF, size, size-node, size-append}
+use Rattle.records.specs.Forest.{end, node, flat, takeF, appendF, countF, size, size-node, size-append}
 use Rattle.words.specs.Word.{kind-lt}
 use Rattle.records.specs.Label.{Label, Trees, readAt, repay, is, bit, arity}
 use Rattle.records.specs.Place.{recordsAt, labelAt, arityAt, kidsAt, endOf, end-one, end-none, end-high}
 use Rattle.output.specs.Overlay.{Wrote, wrote-then, wrote-front}
-use Rattle.grammar.specs.Grammar.{Slot, slot, row, table, rowOf, slots, slotsBelow, module′, symbols, ownStatement}
+use Rattle.grammar.specs.Grammar.{Slot, row, table, rowOf, slots, slotsBelow, module′, symbols, ownStatement}
+use Rattle.grammar.specs.Children.{allowed-sole}
 use Rattle.grammar.specs.Rows.{soleKind}
 use Rattle.grammar.specs.WellFormed.{Fits}
-use Rattle.rewriting.specs.Parts.{Role, module′ as moduleRole, list, statement, expression, method, constructor, plain, field, roleOf, tree, recount, isMember, isConstructor, isLive, classKids, idOf}
+use Rattle.rewriting.specs.Parts.{module′ as moduleRole, list, statement, expression, constructor, plain, roleOf, tree, recount, isMember, isConstructor, isLive, classKids, idOf}
 use Rattle.rewriting.specs.Visit.{Around, State, Result, visit, visitOne, work, since, own, kept, deadClass, classIf, wholeModule, inside, entering}
 use Rattle.class_stack.specs.declared.ClassStack.{ClassStack}
 use Rattle.inspect.specs.Child.{optOf, opt-none}
 use Rattle.walk_laws.specs.Rows.{visitAt, fresh, here-add}
 use Rattle.walk_laws.specs.Written.{wordBy, written, written-tree, written-node}
-use Rattle.walk_laws.specs.Slots.{Standing, standing-at, RowFits, kids-row, row-first, sole-kind}
+use Rattle.walk_laws.specs.Slots.{Standing, standing-at, RowFits, kids-row, row-first}
 use Rattle.walk_laws.specs.Single.{Stays, keeps, one-stays}
 use Rattle.walk_laws.specs.Roles.{Sort, isMethod, isProperty, isAccessor, member-sort}
-use Rattle.walk_laws.specs.Members.{keyWords, bareWords, member-written}
+use Rattle.walk_laws.specs.Members.{member-written}
 use Rattle.walk_laws.specs.After.{after-plain, after-constructor, after-list, after-module, after-expression, after-dead}
-use Rattle.walk_laws.specs.Kinds.{role-4, role-20, class-one, class-inside, class-row-one, class-kids}
+use Rattle.walk_laws.specs.Kinds.{role-4, role-20, class-one, class-row-one, class-kids}
 use Rattle.counter.specs.Contract.{aroundOf, stateOf}
 use Rattle.counter.specs.declared.Scope.{Scope}
 use Rattle.counter.specs.declared.Count.{Count}
-use Rattle.transform.specs.Contract.{wordBelow, wordsOf, stateIn, hereAt, callsAt, afterAt, Asks, Moved, Emitted, kidsHere, behindWords, memberWords}
-use Rattle.transform.specs.Steps.{state-high, asks-row, asks-kids, emit-add, emit-past, size-more, here-none, after-none, here-more, after-more, end-more′, here-one, after-one, here-kids, after-kids, words-append, length-words}
+use Rattle.transform.specs.Contract.{wordBelow, wordsOf, stateIn, hereAt, afterAt, Asks, Moved, Emitted, kidsHere, behindWords, memberWords}
+use Rattle.transform.specs.Steps.{state-high, asks-row, asks-kids, emit-add, emit-past, size-more, here-none, after-none, here-more, after-more, end-more′, here-one, after-one, here-kids, after-kids, length-words}
 use Rattle.transform.specs.declared.Went.{Went}
 
 -- ---- what a record becomes, by its role
@@ -293,7 +293,7 @@ module _ (ws : List ℕ) (at : ℕ) (a : Scope) (s : Count) (c : ClassStack) (h 
 
   symbols-kind : labelAt ws (at + 1) .kind ≡ 40
   unfolding soleKind lookup
-  symbols-kind = sole-kind symbols (labelAt ws (at + 1)) (row-first ws (at + 1) _ symbols _ module-row .1) tt
+  symbols-kind = allowed-sole symbols (labelAt ws (at + 1)) (row-first ws (at + 1) _ symbols _ module-row .1) tt
 
   symbols-arity : arityAt ws (at + 1) ≡ 0
   unfolding arityAt

@@ -1,11 +1,11 @@
 -- The word of a kind and payload under the classes around (rule 6), as the walkers write it. Assumes nothing.
-use mathlib.Core.Path.{_≡_, refl, ap, sym, _∙_}
+use mathlib.Core.Path.{_≡_, refl, ap, sym}
 use mathlib.Core.Bool.{Bool, true, false, _&&_, _||_, cond}
-use mathlib.Core.Option.{Option, none, some}
-use mathlib.Core.List.{List, [], _∷_, _++_, map}
+use mathlib.Core.Option.{some}
+use mathlib.Core.List.{List, [], _∷_, map}
 use Prim.Native.Nat.{ℕ}
 use lib.Dec.{eqb}
-use Rattle.records.specs.Forest.{Forest, end, node, flat}
+use Rattle.records.specs.Forest.{flat}
 use Rattle.records.specs.Label.{Label, Trees, repay, is, wordAt, words, _∶_}
 use Rattle.rewriting.specs.Visit.{isRef, toAlias}
 use Rattle.class_stack.specs.Renaming.{Sub, renameL}

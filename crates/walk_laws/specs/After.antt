@@ -1,24 +1,14 @@
 -- The state behind one record: the next fresh symbol and the default symbol of the class around (rules 1 and 4 to 6). Assumes nothing.
-use mathlib.Core.Path.{_≡_, refl, ap, sym, subst, _∙_}
-use mathlib.Core.Bool.{Bool, true, false, _&&_, _||_, not, cond}
+use mathlib.Core.Path.{_≡_, refl, ap, _∙_}
+use mathlib.Core.Bool.{Bool, true, false, _&&_, cond}
 use mathlib.Core.Option.{Option, none, some}
-use mathlib.Core.List.{List, [], _∷_, _++_}
-use Prim.Native.Nat.{ℕ, zero, suc, _+_, _<_, _≤_}
+use Prim.Native.Nat.{ℕ, suc, _≤_}
 use native.Mathlib.Omega.{arith}
-use lib.Dec.{eqb}
-use borrow.Author.Tests.{eqb-true, eq-eqb, ne-eqb}
-use lib.ListN.{length, replicate}
-use Rattle.words.specs.Table.{lookup}
-use Rattle.words.specs.Word.{bit1}
-use Rattle.records.specs.Forest.{Forest, end, node, takeF, dropF, appendF, countF, anyF, countF-append}
-use Rattle.records.specs.Label.{Label, Trees, repay, is, bit, _∶_}
-use Rattle.records.specs.Place.{recordsAt, labelAt, arityAt, kidsAt, endOf, record-one}
-use Rattle.grammar.specs.Grammar.{Slot, slot, rowOf, table, row, slotsBelow, slots, module′}
-use Rattle.grammar.specs.WellFormed.{Allowed, Fits}
-use Rattle.rewriting.specs.Parts.{Role, module′ as moduleRole, list, statement, expression, method, constructor, plain, field, roleOf, tree, undecorate, changeKids, bareParameters, bareMethod, bareField, isMember, isDecoratedMember, hasPlainKey, elementsOf, idOf, isDecorated, isLive, classKids, decorators, decoratorsOf, isEmpty}
-use Rattle.rewriting.specs.Visit.{Around, State, Result, classSymbol, Taken, Named, nameIf, nameOf, called₁, called₂, memberIf, member, isRef, symbolsOf, Symbols, namedSymbols, decorated₁, decorated₂, liveClassIf, liveClass, deadClass, classIf, kept, own, work, since, inside, entering, join, _then_, wholeModule, decoratedStatement, undecoratedIf, visit, visitOne, visit-node}
-use Rattle.walk_laws.specs.Rows.{visitAt, fresh}
-use Rattle.walk_laws.specs.Slots.{Standing, standing-at}
+use Rattle.records.specs.Forest.{end, node, takeF, dropF, appendF, countF, anyF, countF-append}
+use Rattle.records.specs.Label.{Label, Trees, repay, is}
+use Rattle.rewriting.specs.Parts.{Role, module′ as moduleRole, list, statement, expression, method, constructor, plain, field, roleOf, tree, undecorate, changeKids, bareParameters, bareMethod, bareField, isDecoratedMember, hasPlainKey, elementsOf, idOf, isDecorated, isLive, classKids, isEmpty}
+use Rattle.rewriting.specs.Visit.{Around, State, Result, classSymbol, nameIf, nameOf, called₁, called₂, memberIf, member, isRef, symbolsOf, namedSymbols, decorated₁, decorated₂, liveClassIf, liveClass, deadClass, classIf, kept, own, work, since, inside, entering, join, _then_, wholeModule, decoratedStatement, undecoratedIf, visit, visitOne, visit-node}
+use Rattle.walk_laws.specs.Rows.{fresh}
 
 -- ---- what a member and a class add
 

@@ -3,25 +3,25 @@ use mathlib.Core.Path.{_≡_, refl, ap, sym, _∙_}
 use mathlib.Core.Bool.{Bool, true, false, _&&_, _||_, not, cond, and-false, false≢true}
 use mathlib.Core.Option.{Option}
 use mathlib.Core.List.{List, [], _∷_}
-use Prim.Native.Nat.{ℕ, _+_, _<_}
+use Prim.Native.Nat.{ℕ, _<_}
 use lib.Dec.{eqb, T}
 use lib.ListN.{length}
-use borrow.Author.Tests.{eqb-true, eq-eqb, ne-eqb}
+use borrow.Author.Tests.{eqb-true, ne-eqb}
 use Rattle.words.specs.Table.{lookup}
 use Rattle.records.specs.Forest.{end, node}
-use Rattle.records.specs.Label.{Label, Trees, _∶_}
+use Rattle.records.specs.Label.{Label, Trees}
 use Rattle.records.specs.Place.{recordsAt, labelAt, kidsAt}
-use Rattle.grammar.specs.Grammar.{Slot, Class, Body, Element, Row, row, noRow, leaf, expressions, oneExpression, statements, table, rowOf, slotsBelow, module′ as moduleSlot}
+use Rattle.grammar.specs.Grammar.{Slot, Element, Row, row, noRow, leaf, expressions, oneExpression, statements, table, rowOf, slotsBelow, module′ as moduleSlot}
 use Rattle.grammar.specs.WellFormed.{Allowed, Fits}
 use Rattle.grammar.specs.Rows.{each, each-row, implied, allowed-row, allowed-known}
-use Rattle.rewriting.specs.Parts.{Role, module′, list, statement, expression, method, constructor, plain, field, roleOf, decorators, decoratorsOf, bareMethod, bareField, isDecoratedMember}
-use Rattle.rewriting.specs.Visit.{Around, State, Result, memberIf, member, kept, own, since, work, inside, entering, join, _then_, visit, visitOne, visit-node}
+use Rattle.rewriting.specs.Parts.{Role, module′, list, statement, expression, method, constructor, plain, field, roleOf, isDecoratedMember}
+use Rattle.rewriting.specs.Visit.{Around, State, Result, memberIf, member, own, since, work, inside, entering, join, _then_, visit, visitOne, visit-node}
 use Rattle.walk_laws.specs.Rows.{visitAt, one-after}
 use Rattle.walk_laws.specs.Slots.{Standing, standing-at}
 use Rattle.walk_laws.specs.Single.{T-true}
 use Rattle.walk_laws.specs.Roles.{role-kind}
 use Rattle.walk_laws.specs.Kinds.{after-rest}
-use Rattle.walk_laws.specs.Quiet.{quiet, Quiet, hasClass, quiet-below, quiet-member, no-member, element-class}
+use Rattle.walk_laws.specs.Quiet.{quiet, Quiet, hasClass, quiet-below, quiet-member, no-member}
 
 -- ---- one record
 
@@ -68,7 +68,7 @@ class-same a b l k s h = go (eqb (l .kind) 4) refl (eqb (l .kind) 20) refl h
 
 -- ---- records
 
-then-same : (x : Result) (f g : State → Result) → ((t : State) → f t ≡ g t) → (x then f) ≡ (x then g)
+pub then-same : (x : Result) (f g : State → Result) → ((t : State) → f t ≡ g t) → (x then f) ≡ (x then g)
 unfolding _then_
 then-same x f g e = ap (join x) (e (x .after))
 

@@ -22,7 +22,7 @@ use Rattle.walk_laws.specs.Slots.{standing-at}
 use Rattle.walk_laws.specs.Single.{Stays, expression-stays}
 use Rattle.walk_laws.specs.Roles.{Sort, isMethod, isProperty, isAccessor, member-sort, is-kind, kind-is, is-other, plain-37, bareBy, descriptorBy, member-one, decorated-member}
 use Rattle.walk_laws.specs.Quiet.{one-quiet, element-quiet}
-use Rattle.walk_laws.specs.Elements.{Called, keyAt, key-plain, decorators-nth, parameter-marked, method-called, member-keyed, here-first, plain-here, marked-decorators, called-parameters}
+use Rattle.walk_laws.specs.Elements.{Called, keyAt, key-plain, decorators-nth, parameter-marked, method-called, member-keyed, plain-here, marked-decorators, called-parameters}
 use Rattle.walk_laws.specs.Members.{member-bare}
 
 -- the symbol of a class with this id and this default symbol

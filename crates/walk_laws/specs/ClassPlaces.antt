@@ -16,11 +16,12 @@ use Rattle.records.specs.Label.{Label, Trees, is, arity}
 use Rattle.records.specs.Place.{recordsAt, labelAt, arityAt, kidsAt, endOf, end-drop, record-one}
 use Rattle.grammar.specs.Grammar.{Slot, slot, Expression, Decorators, expression, id, body, classUnder, row, table, rowOf, slots, slotsBelow}
 use Rattle.grammar.specs.WellFormed.{Allowed, Fits}
+use Rattle.grammar.specs.Children.{allowed-sole}
 use Rattle.grammar.specs.Rows.{soleKind, allowed-row}
 use Rattle.rewriting.specs.Parts.{tree, roleOf, plain}
 use Rattle.rewriting.specs.Visit.{Around, State, Result, visit}
 use Rattle.walk_laws.specs.Rows.{visitAt, here-add, calls-add, one-calls, kids-visit, plain-one}
-use Rattle.walk_laws.specs.Slots.{Standing, RowFits, kids-row, arity-slots, row-first, sole-kind}
+use Rattle.walk_laws.specs.Slots.{Standing, RowFits, kids-row, arity-slots, row-first}
 use Rattle.walk_laws.specs.Single.{Stays, expression-stays}
 use Rattle.walk_laws.specs.Roles.{role-kind, plain-28}
 use Rattle.walk_laws.specs.Elements.{decorators-kind, plain-here}
@@ -63,7 +64,7 @@ firstOf (suc k) l = some l
 
 id-kind : (l : Label) → Allowed id l → l .kind ≡ 27
 unfolding soleKind lookup
-id-kind l a = sole-kind id l a tt
+id-kind l a = allowed-sole id l a tt
 
 leaf-27 : (ws : List ℕ) (at : ℕ) → labelAt ws at .kind ≡ 27 → kidsAt ws at ≡ end
 unfolding kidsAt
@@ -153,7 +154,7 @@ class-row ws c f fe t e =
 
 body-kind : (l : Label) → Allowed body l → l .kind ≡ 29
 unfolding soleKind lookup
-body-kind l a = sole-kind body l a tt
+body-kind l a = allowed-sole body l a tt
 
 bit0-lt : (p : ℕ) → bit0 p < 2
 unfolding bit0
@@ -301,7 +302,7 @@ below-4 q p = refl
 
 class-kind : (p : ℕ) (l : Label) → Allowed (classUnder p) l → l .kind ≡ 26
 unfolding soleKind lookup
-class-kind p l a = sole-kind (classUnder p) l a tt
+class-kind p l a = allowed-sole (classUnder p) l a tt
 
 module _ (ws : List ℕ) (at : ℕ) (t : Standing ws at) (kind : labelAt ws at .kind ≡ 4) where
   below : slotsBelow (t .slot) (labelAt ws at .kind) (labelAt ws at .payload) ≡ classUnder (labelAt ws at .payload) ∷ []

@@ -13,11 +13,12 @@ use Rattle.records.specs.Label.{Label, Trees, repay, is}
 use Rattle.records.specs.Place.{recordsAt, labelAt, arityAt, kidsAt, endOf, end-add, end-one, records-first}
 use Rattle.grammar.specs.Grammar.{Slot, slot, Decorators, Parameters, Parameter, module′, methodDecorators, parameterDecorators, key, methodParameters, code, expression, element, parameterOf, table, row, rowOf, slots, slotsBelow, expressions}
 use Rattle.grammar.specs.WellFormed.{Allowed, Fits}
+use Rattle.grammar.specs.Children.{allowed-sole}
 use Rattle.grammar.specs.Rows.{soleKind, allowed-row}
 use Rattle.rewriting.specs.Parts.{roleOf, plain, tree, kidsOf, changeKids, decorators, undecorate, parametersOf, bareParameters, bareMethod, isMember, isPlainKey, firstIsPlain, hasPlainKey}
 use Rattle.rewriting.specs.Visit.{Around, State, Result, visit}
 use Rattle.walk_laws.specs.Rows.{visitAt, one-here, one-after, here-add, after-add, kids-visit, plain-one}
-use Rattle.walk_laws.specs.Slots.{Standing, standing-at, RowFits, kids-row, arity-slots, row-first, sole-kind}
+use Rattle.walk_laws.specs.Slots.{Standing, standing-at, RowFits, kids-row, arity-slots, row-first}
 use Rattle.walk_laws.specs.Single.{Stays, expression-stays, row-nth}
 use Rattle.walk_laws.specs.Roles.{Sort, isMethod, isProperty, isAccessor, member-sort, is-kind, is-other, plain-28, plain-36, plain-37}
 
@@ -53,15 +54,15 @@ below-37 q p = refl
 
 pub decorators-kind : (x : ℕ) (l : Label) → Allowed (slot Decorators x) l → l .kind ≡ 28
 unfolding soleKind lookup
-decorators-kind x l a = sole-kind (slot Decorators x) l a tt
+decorators-kind x l a = allowed-sole (slot Decorators x) l a tt
 
 parameters-kind : (x : ℕ) (l : Label) → Allowed (slot Parameters x) l → l .kind ≡ 36
 unfolding soleKind lookup
-parameters-kind x l a = sole-kind (slot Parameters x) l a tt
+parameters-kind x l a = allowed-sole (slot Parameters x) l a tt
 
 parameter-kind : (x : ℕ) (l : Label) → Allowed (slot Parameter x) l → l .kind ≡ 37
 unfolding soleKind lookup
-parameter-kind x l a = sole-kind (slot Parameter x) l a tt
+parameter-kind x l a = allowed-sole (slot Parameter x) l a tt
 
 -- a key is no 36
 pub key-other : (l : Label) → Allowed key l → is 36 l ≡ false

@@ -1,25 +1,26 @@
 -- Records by kind at a place of an accepted module: the role of a kind, a class statement's class, the number of a record's children. Assumes nothing.
 use mathlib.Core.Path.{_≡_, refl, ap, sym, subst, _∙_}
-use mathlib.Core.Bool.{Bool, true, false, _&&_, _||_, not, cond}
-use mathlib.Core.Option.{Option, none, some}
-use mathlib.Core.List.{List, [], _∷_, _++_}
-use Prim.Native.Nat.{ℕ, zero, suc, _+_, _<_, _≤_}
+use mathlib.Core.Bool.{Bool, true, false, _&&_, _||_, cond}
+use mathlib.Core.Option.{Option}
+use mathlib.Core.List.{List, [], _∷_}
+use Prim.Native.Nat.{ℕ, _+_, _<_, _≤_}
 use native.Mathlib.Omega.{arith}
-use lib.Dec.{eqb, T}
+use lib.Dec.{eqb}
 use borrow.Author.Tests.{eqb-true, eq-eqb, ne-eqb}
-use lib.ListN.{length, replicate}
+use lib.ListN.{length}
 use Rattle.words.specs.Table.{lookup}
-use Rattle.words.specs.Word.{bit0, bit1, bit2, children, childTable}
-use Rattle.records.specs.Forest.{Forest, end, node, takeF, countF}
+use Rattle.words.specs.Word.{bit1, children, childTable}
+use Rattle.records.specs.Forest.{takeF, countF}
 use Rattle.records.specs.Label.{Label, Trees, is, bit, _∶_, arity}
-use Rattle.records.specs.Place.{recordsAt, labelAt, arityAt, kidsAt, endOf, record-one}
-use Rattle.grammar.specs.Grammar.{Slot, slot, Run, _of_, rowOf, table, row, slots, slotsBelow, module′, classUnder, Class, Element}
-use Rattle.grammar.specs.WellFormed.{Allowed, Fits}
-use Rattle.grammar.specs.Rows.{length-below, allowed-row, soleKind}
-use Rattle.rewriting.specs.Parts.{Role, module′ as moduleRole, list, statement, expression, method, constructor, plain, field, roleOf, tree, isMember, isDecoratedMember, hasPlainKey, isConstructor, isLive, classKids, idOf}
+use Rattle.records.specs.Place.{recordsAt, labelAt, arityAt, kidsAt, record-one}
+use Rattle.grammar.specs.Grammar.{Slot, rowOf, table, row, slots, slotsBelow, module′, classUnder}
+use Rattle.grammar.specs.WellFormed.{Fits}
+use Rattle.grammar.specs.Children.{allowed-sole}
+use Rattle.grammar.specs.Rows.{soleKind}
+use Rattle.rewriting.specs.Parts.{Role, module′ as moduleRole, list, statement, expression, method, constructor, plain, field, roleOf, tree, isMember, isDecoratedMember, hasPlainKey, classKids}
 use Rattle.rewriting.specs.Visit.{Around, State, visit, visitOne}
-use Rattle.walk_laws.specs.Rows.{visitAt, plain-one, one-here, kids-visit}
-use Rattle.walk_laws.specs.Slots.{Standing, standing-at, RowFits, kids-row, arity-slots, row-first, sole-kind, fits-count}
+use Rattle.walk_laws.specs.Rows.{visitAt, plain-one, one-here}
+use Rattle.walk_laws.specs.Slots.{Standing, standing-at, RowFits, kids-row, arity-slots, row-first, fits-count}
 use Rattle.walk_laws.specs.After.{memberAfter, after-plain, after-list, after-module, after-constructor, after-method, after-field}
 
 member-none : (b p : Bool) (id : Option ℕ) (s : State) → b ≡ false → memberAfter b p id s ≡ s
@@ -179,7 +180,7 @@ module _ (ws : List ℕ) (whole : Fits (module′ ∷ []) (recordsAt ws 0)) (at 
 
     pub class-kind : labelAt ws (at + 1) .kind ≡ 26
     unfolding soleKind lookup
-    class-kind = sole-kind (classUnder (labelAt ws at .payload)) (labelAt ws (at + 1)) (row-first ws (at + 1) 0 _ [] class-row .1) tt
+    class-kind = allowed-sole (classUnder (labelAt ws at .payload)) (labelAt ws (at + 1)) (row-first ws (at + 1) 0 _ [] class-row .1) tt
 
     -- the child is that class
     pub class-row-one : kidsAt ws at ≡ takeF 1 (recordsAt ws (at + 1))

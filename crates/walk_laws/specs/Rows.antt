@@ -1,15 +1,14 @@
 -- The visit of a row of records by its place in the words: one row behind another, one record, a record by its role. Assumes nothing.
-use mathlib.Core.Path.{_≡_, refl, ap, sym, _∙_}
-use mathlib.Core.Bool.{Bool, true, false, _&&_}
-use mathlib.Core.Option.{Option, none, some}
-use mathlib.Core.List.{List, [], _∷_, _++_}
-use Prim.Native.Nat.{ℕ, zero, suc, _+_, _<_, _≤_}
+use mathlib.Core.Path.{_≡_, refl, ap, _∙_}
+use mathlib.Core.Option.{none}
+use mathlib.Core.List.{List, [], _++_}
+use Prim.Native.Nat.{ℕ, _+_, _<_, _≤_}
 use lib.ListN.{length}
-use Rattle.records.specs.Forest.{Forest, end, node, takeF, dropF, appendF, countF, takeF-add, takeF-end, appendF-end}
+use Rattle.records.specs.Forest.{end, takeF, dropF, appendF, takeF-add, takeF-end, appendF-end}
 use Rattle.records.specs.Label.{Label, Trees}
 use Rattle.records.specs.Place.{recordsAt, labelAt, arityAt, kidsAt, endOf, end-drop, record-one, records-past}
-use Rattle.rewriting.specs.Parts.{Role, module′, list, statement, expression, method, constructor, plain, field, roleOf, tree, recount}
-use Rattle.rewriting.specs.Visit.{Around, State, Result, visit, visitOne, visit-end, visit-node, join, _then_, work, since, own, kept, deadClass, inside, entering, signedBy}
+use Rattle.rewriting.specs.Parts.{expression, plain, field, roleOf, tree}
+use Rattle.rewriting.specs.Visit.{Around, State, Result, visit, visitOne, visit-node, join, _then_, work, since, own, kept, inside, entering, signedBy}
 use Rattle.rewriting.specs.Facts.{visit-append}
 
 -- the visit of the k records at `at`

@@ -5,25 +5,19 @@ use mathlib.Core.List.{List, [], _∷_, _++_}
 use Prim.Native.Nat.{ℕ, zero, suc, _+_, _<_, _≤_}
 use native.Mathlib.Numerals.{add-one}
 use native.Mathlib.Omega.{arith}
-use lib.Dec.{ltb, T}
+use lib.Dec.{ltb}
 use borrow.Author.Tests.{ltb-true, ltb-false}
-use lib.ListN.{length, length-append}
+use lib.ListN.{length}
 use Rattle.words.specs.Word.{children}
-use Rattle.records.specs.Forest.{Forest, end, node, takeF, dropF, appendF, countF, take-drop, takeF-end, take-append}
+use Rattle.records.specs.Forest.{end, node, takeF, dropF, appendF, countF, take-drop, takeF-end}
 use Rattle.records.specs.Label.{Label, Trees, arity}
-use Rattle.records.specs.Place.{recordsAt, labelAt, arityAt, kidsAt, endOf, records-node, records-past, records-first, rest-place}
-use Rattle.grammar.specs.Grammar.{Slot, slot, allowed, rowOf, slotsBelow}
+use Rattle.records.specs.Place.{recordsAt, labelAt, arityAt, kidsAt, endOf, records-node, records-past, records-first}
+use Rattle.grammar.specs.Grammar.{Slot, slot, slotsBelow}
 use Rattle.grammar.specs.WellFormed.{Allowed, Fits}
-use Rattle.grammar.specs.Rows.{length-below, allowed-row, kind-sole, soleKind}
+use Rattle.grammar.specs.Children.{fits-append}
+use Rattle.grammar.specs.Rows.{length-below}
 
--- ---- one forest behind another
-
-pub fits-append : (qs rs : List Slot) (f g : Trees) → Fits qs f → Fits rs g → Fits (qs ++ rs) (appendF f g)
-unfolding Fits appendF
-fits-append [] rs end g a b = b
-fits-append [] rs (node l k r) g a b = absurd a
-fits-append (q ∷ qs) rs end g a b = absurd a
-fits-append (q ∷ qs) rs (node l k r) g a b = (a .0, a .1, fits-append qs rs r g (a .2) b)
+-- ---- a forest in its slots
 
 pub fits-count : (qs : List Slot) (f : Trees) → Fits qs f → countF f ≡ length qs
 unfolding Fits countF
@@ -109,8 +103,3 @@ module _ (ws : List ℕ) where
       go false e =
           let n : takeF (suc k) (recordsAt ws at) ≡ end = ap (takeF (suc k)) (records-past ws at (ltb-false at (length ws) e)) ∙ takeF-end (suc k) in
           absurd (no-fits q qs (subst (Fits (q ∷ qs)) n f))
-
--- ---- what is allowed in a slot
-
-pub sole-kind : (q : Slot) (l : Label) → Allowed q l → T (ltb (soleKind (q .category)) 64) → l .kind ≡ soleKind (q .category)
-sole-kind q l a t = kind-sole (l .kind) (q .category) (allowed-row q (l .kind) (l .payload) (a .grammar) .0) t

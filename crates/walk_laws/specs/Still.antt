@@ -1,25 +1,26 @@
 -- Records that become what they are: where no module, class or element stands, the visit leaves every word as it was read. Assumes nothing.
 use mathlib.Core.Path.{_≡_, refl, ap, sym, subst, _∙_}
 use mathlib.Core.Bool.{Bool, true, false, _||_, cond, true≢false}
-use mathlib.Core.List.{List, [], _∷_, _++_}
+use mathlib.Core.List.{List, [], _∷_}
 use Prim.Native.Nat.{ℕ, zero, suc, _+_, _-_, _<_, _≤_}
 use native.Mathlib.Omega.{arith}
 use lib.Dec.{eqb, ltb}
 use lib.ListN.{length}
-use borrow.Author.Tests.{eqb-true, eqb-false, ne-eqb, ltb-true, ltb-false}
+use borrow.Author.Tests.{eqb-true, ltb-true, ltb-false}
 use Rattle.words.specs.Table.{lookup}
 use Rattle.words.specs.Word.{children, childTable}
-use Rattle.records.specs.Forest.{end, node, flat, size, takeF, dropF, appendF, countF, anyF, takeF-add, takeF-end, size-node, size-append}
+use Rattle.records.specs.Forest.{end, node, flat, size, takeF, dropF, appendF, countF, anyF, takeF-end}
 use Rattle.records.specs.Label.{Label, Trees, repay}
-use Rattle.records.specs.Place.{recordsAt, labelAt, arityAt, kidsAt, endOf, records-node, records-past, record-one}
-use Rattle.grammar.specs.Grammar.{Slot, slotsBelow, module′ as moduleSlot}
-use Rattle.grammar.specs.WellFormed.{Allowed, Fits}
+use Rattle.records.specs.Place.{recordsAt, labelAt, arityAt, kidsAt, endOf, records-past, record-one, row-open, row-kids, size-open}
+use Rattle.grammar.specs.Grammar.{Slot, module′ as moduleSlot}
+use Rattle.grammar.specs.WellFormed.{Fits}
 use Rattle.grammar.specs.Rows.{length-below}
 use Rattle.rewriting.specs.Parts.{Role, module′, list, statement, expression, method, constructor, plain, field, roleOf, tree, recount}
 use Rattle.rewriting.specs.Visit.{Around, State, Result, kept, own, since, signedBy, work, inside, entering, join, _then_, visit, visitOne, visit-node}
 use Rattle.walk_laws.specs.Slots.{fits-count, Standing, standing-at}
 use Rattle.walk_laws.specs.Rows.{visitAt}
-use Rattle.walk_laws.specs.Written.{wordBy, written, written-append, written-end, written-node}
+use Rattle.walk_laws.specs.Around.{then-same}
+use Rattle.walk_laws.specs.Written.{wordBy, written, written-append, written-node}
 
 -- the kinds whose records change, or may: a module, a class statement, a class expression, an element
 unfoldable pub changesKind : ℕ → Bool
@@ -67,10 +68,6 @@ own-still (field d) around l k s h v = absurd h
 joined : (l : Label) (k r : Trees) (s : State) → (same (tree l k) s then λ t. same r t) ≡ same (node l k r) s
 unfolding same _then_ join tree appendF
 joined l k r s = refl
-
-then-same : (x : Result) (f g : State → Result) → ((t : State) → f t ≡ g t) → (x then f) ≡ (x then g)
-unfolding _then_
-then-same x f g e = ap (join x) (e (x .after))
 
 visit-one : (around : Around) (l : Label) (k : Trees) (s : State) → visitOne around l k s ≡ work (roleOf l) around l k (s .default) (visit (inside (roleOf l) around k) k (entering (roleOf l) s))
 unfolding visitOne
@@ -150,13 +147,6 @@ wordsFrom word ws i zero = []
 wordsFrom word ws i (suc n) = word (labelAt ws i .kind) (labelAt ws i .payload) ∷ wordsFrom word ws (i + 1) n
 
 module _ (word : ℕ → ℕ → ℕ) (ws : List ℕ) where
-  row-node : (at k : ℕ) → at < length ws → takeF (suc k) (recordsAt ws at) ≡ node (labelAt ws at) (kidsAt ws at) (takeF k (dropF (arityAt ws at) (recordsAt ws (at + 1))))
-  row-node at k h = ap (takeF (suc k)) (records-node ws at h) ∙ (unfold takeF in refl)
-
-  row-kids : (at k : ℕ) → appendF (kidsAt ws at) (takeF k (dropF (arityAt ws at) (recordsAt ws (at + 1)))) ≡ takeF (arityAt ws at + k) (recordsAt ws (at + 1))
-  unfolding kidsAt
-  row-kids at k = sym (takeF-add (arityAt ws at) k (recordsAt ws (at + 1)))
-
   first : (i n : ℕ) → wordBy word (labelAt ws i) ∷ wordsFrom word ws (i + 1) n ≡ wordsFrom word ws i (suc n)
   unfolding wordsFrom wordBy
   first i n = refl
@@ -178,11 +168,9 @@ module _ (word : ℕ → ℕ → ℕ) (ws : List ℕ) where
           let rest : Trees = takeF k (dropF (arityAt ws at) (recordsAt ws (at + 1))) in
           let j : ℕ = arityAt ws at + k in
           let w : written word (takeF (suc k) (recordsAt ws at)) ≡ wordBy word (labelAt ws at) ∷ written word (takeF j (recordsAt ws (at + 1))) =
-          ap (written word) (row-node at k h) ∙ written-node word (labelAt ws at) (kidsAt ws at) rest
-          ∙ ap (wordBy word (labelAt ws at) ∷_) (sym (written-append word (kidsAt ws at) rest) ∙ ap (written word) (row-kids at k)) in
-          let z : size (takeF (suc k) (recordsAt ws at)) ≡ suc (size (takeF j (recordsAt ws (at + 1)))) =
-          ap size (row-node at k h) ∙ size-node (labelAt ws at) (kidsAt ws at) rest ∙ ap suc (sym (size-append (kidsAt ws at) rest) ∙ ap size (row-kids at k)) in
-          w ∙ ap (wordBy word (labelAt ws at) ∷_) (later h j) ∙ first at (size (takeF j (recordsAt ws (at + 1)))) ∙ ap (wordsFrom word ws at) (sym z)
+          ap (written word) (row-open ws at k h) ∙ written-node word (labelAt ws at) (kidsAt ws at) rest
+          ∙ ap (wordBy word (labelAt ws at) ∷_) (sym (written-append word (kidsAt ws at) rest) ∙ ap (written word) (row-kids ws at k)) in
+          w ∙ ap (wordBy word (labelAt ws at) ∷_) (later h j) ∙ first at (size (takeF j (recordsAt ws (at + 1)))) ∙ ap (wordsFrom word ws at) (sym (size-open ws at k h))
       go false e = nothing at (suc k) (ap (takeF (suc k)) (records-past ws at (ltb-false at (length ws) e)) ∙ takeF-end (suc k))
 
   row-within : (m at : ℕ) → length ws - at ≤ m → (k : ℕ) → Same at k

@@ -4,7 +4,6 @@ use Rattle.alias_search.specs.Walk.{Left, left-start, left-hit, left-nex
 use Rattle.alias_search.specs.Read.{mentions-gone}
 use Rattle.alias_search.specs.Mentions.{Mode, whole, gone, lead, until, each, elements as elements-mode, searched, behind, ofField, ofMethod, mentionsBy, mentions as mentions-all}
 use Rattle.inspect.specs.Row.{not-true, not-false}
-use Rattle.inspect.specs.Class.{constructor-at as constructor-label}
 use Rattle.inspect.specs.Child.{kind-within, kids-row}
 use Rattle.rewriting.specs.Parts.{elementsOf, parametersOf}
 use Rattle.records.specs.Place.{labelAt, arityAt, kidsAt, end-low, end-one}

@@ -13,63 +13,48 @@ Inv-loop ws₀ from until at to₀ i₀ ws to i = length ws ≡ length ws₀
 abbrev μ-loop : tie.MeasureT-loop
 μ-loop ws₀ from until at to₀ i₀ ws to i = until - i
 
--- src/lib.rt:59:5
 loop-holds : tie.Need-loop-holds Inv-loop μ-loop
 loop-holds c = refl
 
--- src/lib.rt:61:13
 same-length : tie.Need-same-length Inv-loop μ-loop
 same-length c = c .before .before .loop .inv
 
--- src/lib.rt:61:13
 returns : tie.Need-returns Inv-loop μ-loop
 returns c = search needs
 
--- src/lib.rt:64:13
 same-length-2 : tie.Need-same-length-2 Inv-loop μ-loop
 same-length-2 c = c .before .before .before .loop .inv
 
--- src/lib.rt:64:13
 returns-2 : tie.Need-returns-2 Inv-loop μ-loop
 returns-2 c = search needs
 
--- src/lib.rt:66:18
 mul-ws : tie.Need-mul-ws Inv-loop μ-loop
 mul-ws c = search needs
 
--- src/lib.rt:66:18
 slice-read-ws : tie.Need-slice-read-ws Inv-loop μ-loop
 slice-read-ws c = omega (arith, c .before .if2 .left)
 
--- src/lib.rt:66:9
 mul-ws-2 : tie.Need-mul-ws-2 Inv-loop μ-loop
 mul-ws-2 c = search needs
 
--- src/lib.rt:66:9
 slice-write-ws : tie.Need-slice-write-ws Inv-loop μ-loop
 slice-write-ws c = omega (arith, c .before .before .if1 .left)
 
--- src/lib.rt:67:9
 add-to : tie.Need-add-to Inv-loop μ-loop
 add-to c = search needs
 
--- src/lib.rt:68:9
 add-i : tie.Need-add-i Inv-loop μ-loop
 add-i c = omega (arith, c .before .before .before .loop-test .taken, c .before .before .before .before .before .good)
 
--- src/lib.rt:59:5
 loop-less : tie.Need-loop-less Inv-loop μ-loop
 loop-less c = omega (arith, c .before .before .before .loop-test .taken)
 
--- src/lib.rt:59:5
 loop-again : tie.Need-loop-again Inv-loop μ-loop
 loop-again c = rw (length-set) (c .before .before .before .before .loop .inv)
 
--- src/lib.rt:56:1
 same-length-3 : tie.Need-same-length-3 Inv-loop μ-loop
 same-length-3 c = c .before .loop .inv
 
--- src/lib.rt:56:1
 returns-3 : tie.Need-returns-3 Inv-loop μ-loop
 returns-3 c = search needs
 

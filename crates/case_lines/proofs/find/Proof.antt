@@ -11,31 +11,24 @@ Inv-loop text from b i₀ i = (from ≤ i) × (i ≤ length text)
 abbrev μ-loop : tie.MeasureT-loop
 μ-loop text from b i₀ i = length text - i
 
--- src/lib.rt:199:5
 loop-holds : tie.Need-loop-holds Inv-loop μ-loop
 loop-holds c = omega (arith, c .pre)
 
--- src/lib.rt:200:12
 shared-slice-read-if1 : tie.Need-shared-slice-read-if1 Inv-loop μ-loop
 shared-slice-read-if1 c = omega (arith, c .before .loop-test .taken)
 
--- src/lib.rt:201:13
 returns : tie.Need-returns Inv-loop μ-loop
 returns c = omega (arith, c .before .before .loop-test .taken, c .before .before .before .loop .inv)
 
--- src/lib.rt:203:9
 add-i : tie.Need-add-i Inv-loop μ-loop
 add-i c = omega (arith, c .before .before .loop-test .taken, c .before .before .before .before .good)
 
--- src/lib.rt:199:5
 loop-less : tie.Need-loop-less Inv-loop μ-loop
 loop-less c = omega (arith, c .before .before .loop-test .taken)
 
--- src/lib.rt:199:5
 loop-again : tie.Need-loop-again Inv-loop μ-loop
 loop-again c = omega (arith, c .before .before .loop-test .taken, c .before .before .before .loop .inv)
 
--- src/lib.rt:194:1
 returns-2 : tie.Need-returns-2 Inv-loop μ-loop
 returns-2 c = omega (arith, c .loop-test .left, c .before .loop .inv)
 

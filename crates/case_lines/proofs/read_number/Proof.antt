@@ -12,47 +12,36 @@ Inv-loop line from value₀ i₀ value i = from ≤ i
 abbrev μ-loop : tie.MeasureT-loop
 μ-loop line from value₀ i₀ value i = length line - i
 
--- src/lib.rt:204:5
 loop-holds : tie.Need-loop-holds Inv-loop μ-loop
 loop-holds c = omega arith
 
--- src/lib.rt:205:22
 shared-slice-read-is-digit : tie.Need-shared-slice-read-is-digit Inv-loop μ-loop
 shared-slice-read-is-digit c = omega (arith, c .before .loop-test .taken)
 
--- src/lib.rt:205:13
 is-digit-requires : tie.Need-is-digit-requires Inv-loop μ-loop
 is-digit-requires c κs = search needs
 
--- src/lib.rt:208:23
 add-t10 : tie.Need-add-t10 Inv-loop μ-loop
 add-t10 c = omega (arith, c .before .before .before .loop-test .taken, c .before .before .before .before .before .before .good)
 
--- src/lib.rt:206:13
 returns : tie.Need-returns Inv-loop μ-loop
 returns c = search needs
 
--- src/lib.rt:211:35
 shared-slice-read-with-digit : tie.Need-shared-slice-read-with-digit Inv-loop μ-loop
 shared-slice-read-with-digit c = omega (arith, c .before .before .before .before .loop-test .taken)
 
--- src/lib.rt:211:9
 with-digit-requires : tie.Need-with-digit-requires Inv-loop μ-loop
 with-digit-requires c κs = search needs
 
--- src/lib.rt:212:9
 add-i : tie.Need-add-i Inv-loop μ-loop
 add-i c = omega (arith, c .before .before .before .before .before .loop-test .taken, c .before .before .before .before .before .before .before .before .good)
 
--- src/lib.rt:204:5
 loop-less : tie.Need-loop-less Inv-loop μ-loop
 loop-less c = omega (arith, c .before .before .before .before .before .loop-test .taken)
 
--- src/lib.rt:204:5
 loop-again : tie.Need-loop-again Inv-loop μ-loop
 loop-again c = omega (arith, c .before .before .before .before .before .before .loop .inv)
 
--- src/lib.rt:201:1
 returns-2 : tie.Need-returns-2 Inv-loop μ-loop
 returns-2 c = search needs
 

@@ -13,39 +13,30 @@ Inv-loop ws₀ line r₀ i₀ ws r i = length ws ≡ length ws₀
 abbrev μ-loop : tie.MeasureT-loop
 μ-loop ws₀ line r₀ i₀ ws r i = length line - i
 
--- src/lib.rt:185:5
 loop-holds : tie.Need-loop-holds Inv-loop μ-loop
 loop-holds c = refl
 
--- src/lib.rt:186:30
 shared-slice-read-with-byte : tie.Need-shared-slice-read-with-byte Inv-loop μ-loop
 shared-slice-read-with-byte c = omega (arith, c .before .before .loop-test .taken)
 
--- src/lib.rt:186:9
 with-byte-requires : tie.Need-with-byte-requires Inv-loop μ-loop
 with-byte-requires c κs = search needs
 
--- src/lib.rt:187:9
 add-i : tie.Need-add-i Inv-loop μ-loop
 add-i c = omega (arith, c .before .before .before .before .before .loop-test .taken, c .before .before .before .before .before .before .before .before .before .good)
 
--- src/lib.rt:185:5
 loop-less : tie.Need-loop-less Inv-loop μ-loop
 loop-less c = omega (arith, c .before .before .before .before .before .loop-test .taken)
 
--- src/lib.rt:185:5
 loop-again : tie.Need-loop-again Inv-loop μ-loop
 loop-again c = c .before .before .with-byte .kept .0 ∙ c .before .before .before .before .before .before .loop .inv
 
--- src/lib.rt:189:9
 ended-requires : tie.Need-ended-requires Inv-loop μ-loop
 ended-requires c κs = search needs
 
--- src/lib.rt:175:1
 same-length : tie.Need-same-length Inv-loop μ-loop
 same-length c = c .before .before .ended .kept .0 ∙ c .before .before .before .before .before .loop .inv
 
--- src/lib.rt:175:1
 returns : tie.Need-returns Inv-loop μ-loop
 returns c = search needs
 

@@ -13,31 +13,24 @@ Inv-loop ws₀ from at times to₀ n₀ ws to n = length ws ≡ length ws₀
 abbrev μ-loop : tie.MeasureT-loop
 μ-loop ws₀ from at times to₀ n₀ ws to n = times - n
 
--- src/lib.rt:77:5
 loop-holds : tie.Need-loop-holds Inv-loop μ-loop
 loop-holds c = refl
 
--- src/lib.rt:78:9
 copied-requires : tie.Need-copied-requires Inv-loop μ-loop
 copied-requires c κs = search needs
 
--- src/lib.rt:79:9
 add-n : tie.Need-add-n Inv-loop μ-loop
 add-n c = omega (arith, c .before .before .before .before .loop-test .taken, c .before .before .before .before .before .before .before .good)
 
--- src/lib.rt:77:5
 loop-less : tie.Need-loop-less Inv-loop μ-loop
 loop-less c = omega (arith, c .before .before .before .before .loop-test .taken)
 
--- src/lib.rt:77:5
 loop-again : tie.Need-loop-again Inv-loop μ-loop
 loop-again c = c .before .before .copied .kept .0 ∙ c .before .before .before .before .before .loop .inv
 
--- src/lib.rt:74:1
 same-length : tie.Need-same-length Inv-loop μ-loop
 same-length c = c .before .loop .inv
 
--- src/lib.rt:74:1
 returns : tie.Need-returns Inv-loop μ-loop
 returns c = search needs
 

@@ -12,47 +12,36 @@ Inv-loop expected out i₀ i = 0 ≤ i
 abbrev μ-loop : tie.MeasureT-loop
 μ-loop expected out i₀ i = length out - i
 
--- src/lib.rt:53:9
 returns : tie.Need-returns Inv-loop μ-loop
 returns c = search needs
 
--- src/lib.rt:56:5
 loop-holds : tie.Need-loop-holds Inv-loop μ-loop
 loop-holds c = omega arith
 
--- src/lib.rt:58:13
 mul-w : tie.Need-mul-w Inv-loop μ-loop
 mul-w c = search needs
 
--- src/lib.rt:58:13
 shared-slice-read-w : tie.Need-shared-slice-read-w Inv-loop μ-loop
 shared-slice-read-w c = search needs
 
--- src/lib.rt:62:12
 mul-if3 : tie.Need-mul-if3 Inv-loop μ-loop
 mul-if3 c = search needs
 
--- src/lib.rt:62:12
 shared-slice-read-if3 : tie.Need-shared-slice-read-if3 Inv-loop μ-loop
 shared-slice-read-if3 c = omega (arith, c .before .before .loop-test .taken)
 
--- src/lib.rt:63:13
 returns-2 : tie.Need-returns-2 Inv-loop μ-loop
 returns-2 c = search needs
 
--- src/lib.rt:65:9
 add-i : tie.Need-add-i Inv-loop μ-loop
 add-i c = omega (arith, c .before .before .before .loop-test .taken, c .before .before .before .before .before .before .good)
 
--- src/lib.rt:56:5
 loop-less : tie.Need-loop-less Inv-loop μ-loop
 loop-less c = omega (arith, c .before .before .before .loop-test .taken)
 
--- src/lib.rt:56:5
 loop-again : tie.Need-loop-again Inv-loop μ-loop
 loop-again c = omega arith
 
--- src/lib.rt:51:1
 returns-3 : tie.Need-returns-3 Inv-loop μ-loop
 returns-3 c = search needs
 

@@ -1,12 +1,10 @@
+-- `has_words_in_any_order`: both lengths, and each word of one among those of the other.
 use borrow.Author.Needs.{needs}
 use lib.ListN.{length}
 use native.Mathlib.Omega.{arith}
 use Prim.Native.Nat.{_-_, _≤_}
 use Rattle.case_runs.proofs.has_words_in_any_order.Statement.{statement}
 use Rattle.case_runs.proofs.has_words_in_any_order.Tie as tie
-use Rattle.case_runs.proofs.has_words_in_any_order.Reads as reads
-use Rattle.case_runs.proofs.has_words_in_any_order.Lts as lts
-use Rattle.case_runs.proofs.occurs.Reads as occurs-reads
 
 abbrev Inv-loop : tie.InvT-loop
 Inv-loop expected out i₀ i = 0 ≤ i
@@ -14,51 +12,39 @@ Inv-loop expected out i₀ i = 0 ≤ i
 abbrev μ-loop : tie.MeasureT-loop
 μ-loop expected out i₀ i = length out - i
 
--- src/lib.rt:84:9
 returns : tie.Need-returns Inv-loop μ-loop
 returns c = search needs
 
--- src/lib.rt:87:5
 loop-holds : tie.Need-loop-holds Inv-loop μ-loop
 loop-holds c = omega arith
 
--- src/lib.rt:89:20
 mul-occurs : tie.Need-mul-occurs Inv-loop μ-loop
 mul-occurs c = search needs
 
--- src/lib.rt:89:20
 shared-slice-read-occurs : tie.Need-shared-slice-read-occurs Inv-loop μ-loop
 shared-slice-read-occurs c = search needs
 
--- src/lib.rt:89:13
 occurs-requires : tie.Need-occurs-requires Inv-loop μ-loop
 occurs-requires c κs = search needs
 
--- src/lib.rt:91:13
 mul-found : tie.Need-mul-found Inv-loop μ-loop
 mul-found c = search needs
 
--- src/lib.rt:91:13
 shared-slice-read-found : tie.Need-shared-slice-read-found Inv-loop μ-loop
 shared-slice-read-found c = omega (arith, c .before .before .loop-test .taken)
 
--- src/lib.rt:94:13
 returns-2 : tie.Need-returns-2 Inv-loop μ-loop
 returns-2 c = search needs
 
--- src/lib.rt:96:9
 add-i : tie.Need-add-i Inv-loop μ-loop
 add-i c = omega (arith, c .before .before .loop-test .taken, c .before .before .before .before .before .before .before .good)
 
--- src/lib.rt:87:5
 loop-less : tie.Need-loop-less Inv-loop μ-loop
 loop-less c = omega (arith, c .before .before .loop-test .taken)
 
--- src/lib.rt:87:5
 loop-again : tie.Need-loop-again Inv-loop μ-loop
 loop-again c = omega arith
 
--- src/lib.rt:82:1
 returns-3 : tie.Need-returns-3 Inv-loop μ-loop
 returns-3 c = search needs
 

@@ -13,55 +13,42 @@ Inv-loop ws₀ expected₀ out₀ text report t₀ i₀ ws expected out t i = (l
 abbrev μ-loop : tie.MeasureT-loop
 μ-loop ws₀ expected₀ out₀ text report t₀ i₀ ws expected out t i = length text - i
 
--- src/lib.rt:127:5
 loop-holds : tie.Need-loop-holds Inv-loop μ-loop
 loop-holds c = (refl, refl, refl)
 
--- src/lib.rt:128:13
 find-requires : tie.Need-find-requires Inv-loop μ-loop
 find-requires c κs = omega (arith, c .loop-test .taken)
 
--- src/lib.rt:129:41
 sub-run-line : tie.Need-sub-run-line Inv-loop μ-loop
 sub-run-line c = omega (arith, c .before .before .before .find .ensures .0)
 
--- src/lib.rt:129:41
 part-run-line-start : tie.Need-part-run-line-start Inv-loop μ-loop
 part-run-line-start c = omega (arith, c .before .before .before .find .ensures .0, c .before .before .before .find .ensures .1)
 
--- src/lib.rt:129:41
 part-run-line-end : tie.Need-part-run-line-end Inv-loop μ-loop
 part-run-line-end c = omega (arith, c .before .before .before .find .ensures .0, c .before .before .before .find .ensures .1)
 
--- src/lib.rt:129:9
 run-line-requires : tie.Need-run-line-requires Inv-loop μ-loop
 run-line-requires c κs = search needs
 
--- src/lib.rt:130:13
 add-i : tie.Need-add-i Inv-loop μ-loop
 add-i c = omega (arith, c .before .before .before .before .before .before .before .before .before .before .before .find .ensures .1, c .before .before .before .before .before .before .before .before .before .before .before .before .before .before .before .before .before .before .good)
 
--- src/lib.rt:127:5
 loop-less : tie.Need-loop-less Inv-loop μ-loop
 loop-less c = omega (arith, c .before .before .before .before .before .before .before .before .before .before .before .before .loop-test .taken, c .before .before .before .before .before .before .before .before .before .before .before .find .ensures .0, c .before .before .before .before .before .before .before .before .before .before .before .find .ensures .1)
 
--- src/lib.rt:127:5
 loop-again : tie.Need-loop-again Inv-loop μ-loop
 loop-again c = (c .before .before .before .before .before .before .run-line .kept .0 ∙ c .before .before .before .before .before .before .before .before .before .before .before .before .before .loop .inv .0, c .before .before .before .before .before .before .run-line .kept .1 .0 ∙ c .before .before .before .before .before .before .before .before .before .before .before .before .before .loop .inv .1, c .before .before .before .before .before .before .run-line .kept .1 .1 .0 ∙ c .before .before .before .before .before .before .before .before .before .before .before .before .before .loop .inv .2)
 
--- src/lib.rt:124:1
 same-length : tie.Need-same-length Inv-loop μ-loop
 same-length c = c .before .loop .inv .0
 
--- src/lib.rt:124:1
 same-length-2 : tie.Need-same-length-2 Inv-loop μ-loop
 same-length-2 c = c .before .loop .inv .1
 
--- src/lib.rt:124:1
 same-length-3 : tie.Need-same-length-3 Inv-loop μ-loop
 same-length-3 c = c .before .loop .inv .2
 
--- src/lib.rt:124:1
 returns : tie.Need-returns Inv-loop μ-loop
 returns c = search needs
 

@@ -5,115 +5,87 @@ use borrow.Author.Needs.{needs}
 use Rattle.case_runs.proofs.run_case.Statement.{statement}
 use Rattle.case_runs.proofs.run_case.Tie as tie
 
--- src/lib.rt:85:9
 read-head-requires : tie.Need-read-head-requires
 read-head-requires c κs = search needs
 
--- src/lib.rt:86:9
 find-requires : tie.Need-find-requires
 find-requires c κs = search needs
 
--- src/lib.rt:87:40
 slice-aggregate-read-words : tie.Need-slice-aggregate-read-words
 slice-aggregate-read-words c = sym (length-take-le _ _ (c .before .before .find .ensures .1))
 
--- src/lib.rt:87:9
 read-words-requires : tie.Need-read-words-requires
 read-words-requires c κs = search needs
 
--- src/lib.rt:88:46
 sub-read-words : tie.Need-sub-read-words
 sub-read-words c = search needs
 
--- src/lib.rt:88:46
 part-read-words-start : tie.Need-part-read-words-start
 part-read-words-start c = search needs
 
--- src/lib.rt:88:46
 part-read-words-end : tie.Need-part-read-words-end
 part-read-words-end c = search needs
 
--- src/lib.rt:88:9
 read-words-requires-2 : tie.Need-read-words-requires-2
 read-words-requires-2 c κs = search needs
 
--- src/lib.rt:90:9
 same-length : tie.Need-same-length
 same-length c = search needs
 
--- src/lib.rt:90:9
 same-length-2 : tie.Need-same-length-2
 same-length-2 c = search needs
 
--- src/lib.rt:90:9
 returns : tie.Need-returns
 returns c = search needs
 
--- src/lib.rt:93:9
 same-length-3 : tie.Need-same-length-3
 same-length-3 c = search needs
 
--- src/lib.rt:93:9
 same-length-4 : tie.Need-same-length-4
 same-length-4 c = search needs
 
--- src/lib.rt:93:9
 returns-2 : tie.Need-returns-2
 returns-2 c = search needs
 
--- src/lib.rt:96:9
 same-length-5 : tie.Need-same-length-5
 same-length-5 c = search needs
 
--- src/lib.rt:96:9
 same-length-6 : tie.Need-same-length-6
 same-length-6 c = search needs
 
--- src/lib.rt:96:9
 returns-3 : tie.Need-returns-3
 returns-3 c = search needs
 
--- src/lib.rt:98:15
 slice-reshare-prefix-comes-out : tie.Need-slice-reshare-prefix-comes-out
 slice-reshare-prefix-comes-out c = search needs
 
--- src/lib.rt:98:15
 slice-aggregate-comes-out : tie.Need-slice-aggregate-comes-out
 slice-aggregate-comes-out c = sym (length-take-le _ _ (c .before .before .before .before .if1 .left))
 
--- src/lib.rt:98:25
 slice-reshare-prefix-comes-out-2 : tie.Need-slice-reshare-prefix-comes-out-2
 slice-reshare-prefix-comes-out-2 c = search needs
 
--- src/lib.rt:98:25
 slice-aggregate-comes-out-2 : tie.Need-slice-aggregate-comes-out-2
 slice-aggregate-comes-out-2 c = sym (length-take-le _ _ (c .before .before .before .before .if2 .left))
 
--- src/lib.rt:98:41
 slice-relend-prefix-comes-out : tie.Need-slice-relend-prefix-comes-out
 slice-relend-prefix-comes-out c = search needs
 
--- src/lib.rt:98:41
 slice-aggregate-comes-out-3 : tie.Need-slice-aggregate-comes-out-3
 slice-aggregate-comes-out-3 c = sym (length-take-le _ _ (c .before .before .before .if3 .left))
 
--- src/lib.rt:98:5
 comes-out-requires : tie.Need-comes-out-requires
 comes-out-requires c κs = search needs
 
--- src/lib.rt:84:1
 same-length-7 : tie.Need-same-length-7
 same-length-7 c = search needs
 
--- src/lib.rt:84:1
 same-length-8 : tie.Need-same-length-8
 same-length-8 c = search needs
 
--- src/lib.rt:84:1
 same-length-9 : tie.Need-same-length-9
 same-length-9 c = search needs
 
--- src/lib.rt:84:1
 returns-4 : tie.Need-returns-4
 returns-4 c = search needs
 

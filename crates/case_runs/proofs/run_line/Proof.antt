@@ -5,59 +5,45 @@ use borrow.Author.Needs.{needs}
 use Rattle.case_runs.proofs.run_line.Statement.{statement}
 use Rattle.case_runs.proofs.run_line.Tie as tie
 
--- src/lib.rt:113:9
 find-requires : tie.Need-find-requires
 find-requires c κs = search needs
 
--- src/lib.rt:115:9
 write-line-requires : tie.Need-write-line-requires
 write-line-requires c κs = search needs
 
--- src/lib.rt:116:9
 returns : tie.Need-returns
 returns c = search needs
 
--- src/lib.rt:118:45
 slice-aggregate-run-case : tie.Need-slice-aggregate-run-case
 slice-aggregate-run-case c = sym (length-take-le _ _ (c .before .before .before .before .before .find .ensures .1))
 
--- src/lib.rt:118:9
 run-case-requires : tie.Need-run-case-requires
 run-case-requires c κs = search needs
 
--- src/lib.rt:119:9
 judged-requires : tie.Need-judged-requires
 judged-requires c κs = search needs
 
--- src/lib.rt:120:28
 sub-write-line : tie.Need-sub-write-line
 sub-write-line c = search needs
 
--- src/lib.rt:120:28
 part-write-line-start : tie.Need-part-write-line-start
 part-write-line-start c = search needs
 
--- src/lib.rt:120:28
 part-write-line-end : tie.Need-part-write-line-end
 part-write-line-end c = search needs
 
--- src/lib.rt:120:5
 write-line-requires-2 : tie.Need-write-line-requires-2
 write-line-requires-2 c κs = search needs
 
--- src/lib.rt:112:1
 same-length : tie.Need-same-length
 same-length c = search needs
 
--- src/lib.rt:112:1
 same-length-2 : tie.Need-same-length-2
 same-length-2 c = search needs
 
--- src/lib.rt:112:1
 same-length-3 : tie.Need-same-length-3
 same-length-3 c = search needs
 
--- src/lib.rt:112:1
 returns-2 : tie.Need-returns-2
 returns-2 c = search needs
 

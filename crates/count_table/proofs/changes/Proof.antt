@@ -2,7 +2,7 @@
 use Rattle.count_table.specs.Note.{changes-one, changes-none}
 use Rattle.words.specs.Table.{lookup}
 use Rattle.walk_laws.specs.Still.{changesKind}
-use mathlib.Core.Path.{refl, sym}
+use mathlib.Core.Path.{refl}
 use Rattle.count_table.proofs.changes.Statement.{statement}
 use Rattle.count_table.proofs.changes.Tie as tie
 

@@ -1,7 +1,6 @@
 -- `class_symbol`: by the id, then by the default symbol.
 use Rattle.counter.specs.Steps.{taken-id, taken-default, taken-fresh}
 use native.Mathlib.Omega.{arith}
-use mathlib.Core.Path.{_≡_, sym, _∙_}
 use Rattle.counter.proofs.class_symbol.Statement.{statement}
 use Rattle.counter.proofs.class_symbol.Tie as tie
 

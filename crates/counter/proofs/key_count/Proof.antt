@@ -1,7 +1,7 @@
 -- `key_count`: a plain key takes none.
 use native.Mathlib.Omega.{arith}
 use Rattle.counter.specs.Totals.{key-none, key-one}
-use mathlib.Core.Path.{sym, ap, _∙_}
+use mathlib.Core.Path.{sym, _∙_}
 use borrow.Author.Needs.{needs}
 use Rattle.counter.proofs.key_count.Statement.{statement}
 use Rattle.counter.proofs.key_count.Tie as tie

@@ -1,7 +1,7 @@
 -- `key_symbol`: a plain key takes none.
 use Rattle.counter.specs.Steps.{key-plain, key-fresh}
 use native.Mathlib.Omega.{arith}
-use mathlib.Core.Path.{_≡_, sym, _∙_}
+use mathlib.Core.Path.{sym, _∙_}
 use borrow.Author.Needs.{needs}
 use Rattle.counter.proofs.key_symbol.Statement.{statement}
 use Rattle.counter.proofs.key_symbol.Tie as tie

@@ -1,9 +1,8 @@
 -- `total_element`: the note, and what rules 4 and 5 add to it.
 use Rattle.counter.specs.Totals.{total-same, note-at, total-plain, total-named, total-defaulted, total-taken}
-use lib.ListN.{getD}
 use native.Mathlib.Omega.{arith}
 use borrow.Author.Tests.{not-true, not-false}
-use mathlib.Core.Path.{_≡_, refl, ap, sym, _∙_}
+use mathlib.Core.Path.{refl, sym, _∙_}
 use borrow.Author.Needs.{needs}
 use Rattle.counter.proofs.total_element.Statement.{statement}
 use Rattle.counter.proofs.total_element.Tie as tie

@@ -1,5 +1,5 @@
 -- `flags_hold`: an arm for each rule of `flagRule`.
-use mathlib.Core.Path.{refl, sym, ap, _∙_}
+use mathlib.Core.Path.{refl}
 use borrow.Author.Tests.{eq-eqb, ne-eqb, lt-ltb, le-ltb}
 use Rattle.grammar.specs.Grammar.{holds}
 use Rattle.grammar.specs.Sets.{flagRule}

@@ -1,3 +1,4 @@
+-- `skip`: the invariant says where the records left to pass end.
 use Rattle.records.specs.Place.{endOf, arityAt, arityAt-children, end-none, end-past, end-all, end-more}
 use Rattle.words.specs.Word.{kindOf, payloadOf, children}
 use mathlib.Core.List.{List}
@@ -8,9 +9,6 @@ use Prim.Native.Nat.{ℕ, suc, _+_, _-_, _<_, _≤_}
 use mathlib.Core.Path.{_≡_, refl, sym, ap, _∙_}
 use Rattle.records.proofs.skip.Statement.{statement}
 use Rattle.records.proofs.skip.Tie as tie
-use Rattle.records.proofs.skip.Reads as reads
-use Rattle.records.proofs.skip.Lts as lts
-use Rattle.words.proofs.child_count.Reads as child-count-reads
 
 -- one word passed: its record's children are to be passed instead of it
 step : (ws : List ℕ) (i left n : ℕ) → i < length ws → 1 ≤ left → n ≡ children (kindOf (getD ws i 0)) (payloadOf (getD ws i 0)) → endOf ws i left ≡ endOf ws (i + 1) (left - 1 + n)
@@ -25,47 +23,36 @@ Inv-loop ws at k i₀ left₀ i left = (i + left < length ws) × (endOf ws i lef
 abbrev μ-loop : tie.MeasureT-loop
 μ-loop ws at k i₀ left₀ i left = length ws - i
 
--- src/lib.rt:11:9
 returns : tie.Need-returns Inv-loop μ-loop
 returns c = sym (end-past (c .before .before .args .ws .now) (c .before .before .args .at) (c .before .before .args .k) (omega arith))
 
--- src/lib.rt:13:8
 sub-if2 : tie.Need-sub-if2 Inv-loop μ-loop
 sub-if2 c = search needs
 
--- src/lib.rt:14:9
 returns-2 : tie.Need-returns-2 Inv-loop μ-loop
 returns-2 c = sym (end-all (c .before .before .before .args .ws .now) (c .before .before .before .args .at) (c .before .before .before .args .k) (omega arith) (omega arith))
 
--- src/lib.rt:18:5
 loop-holds : tie.Need-loop-holds Inv-loop μ-loop
 loop-holds c = (omega arith, refl)
 
--- src/lib.rt:19:36
 mul-child-count : tie.Need-mul-child-count Inv-loop μ-loop
 mul-child-count c = omega arith
 
--- src/lib.rt:19:36
 shared-slice-read-child-count : tie.Need-shared-slice-read-child-count Inv-loop μ-loop
 shared-slice-read-child-count c = omega arith
 
--- src/lib.rt:19:17
 child-count-requires : tie.Need-child-count-requires Inv-loop μ-loop
 child-count-requires c κs = search needs
 
--- src/lib.rt:19:17
 cast-n : tie.Need-cast-n Inv-loop μ-loop
 cast-n c = search needs
 
--- src/lib.rt:20:12
 sub-if3 : tie.Need-sub-if3 Inv-loop μ-loop
 sub-if3 c = omega arith
 
--- src/lib.rt:20:12
 sub-if3-2 : tie.Need-sub-if3-2 Inv-loop μ-loop
 sub-if3-2 c = omega arith
 
--- src/lib.rt:21:13
 returns-3 : tie.Need-returns-3 Inv-loop μ-loop
 returns-3 c =
     let ws = c .before .before .before .before .before .before .before .before .args .ws .now in
@@ -74,27 +61,21 @@ returns-3 c =
     ∙ end-all ws (c .before .before .before .before .loop .i + 1) (c .before .before .before .before .loop .left - 1 + c .before .child-count .result) (omega arith) (omega arith)
     )
 
--- src/lib.rt:23:16
 sub-left : tie.Need-sub-left Inv-loop μ-loop
 sub-left c = omega arith
 
--- src/lib.rt:23:16
 add-left : tie.Need-add-left Inv-loop μ-loop
 add-left c = omega arith
 
--- src/lib.rt:24:9
 add-i : tie.Need-add-i Inv-loop μ-loop
 add-i c = omega arith
 
--- src/lib.rt:18:5
 loop-less : tie.Need-loop-less Inv-loop μ-loop
 loop-less c = omega arith
 
--- src/lib.rt:18:5
 loop-again : tie.Need-loop-again Inv-loop μ-loop
 loop-again c = (omega arith, sym (step (c .before .before .before .before .before .before .before .before .args .ws .now) (c .before .before .before .before .loop .i) (c .before .before .before .before .loop .left) (c .before .child-count .result) (omega arith) (omega arith) (c .before .child-count .ensures)) ∙ c .before .before .before .before .loop .inv .1)
 
--- src/lib.rt:7:1
 returns-4 : tie.Need-returns-4 Inv-loop μ-loop
 returns-4 c =
     let none : c .before .loop .left ≡ 0 = omega arith in

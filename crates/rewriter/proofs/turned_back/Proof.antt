@@ -1,7 +1,6 @@
 -- `turned_back`: a fault of validation, or 7, or none.
 use Rattle.rewriter.specs.Result.{back-fault, back-7, back-none}
-use native.Mathlib.Omega.{arith}
-use mathlib.Core.Path.{_≡_, sym, _∙_}
+use mathlib.Core.Path.{sym, _∙_}
 use borrow.Author.Needs.{needs}
 use Rattle.rewriter.proofs.turned_back.Statement.{statement}
 use Rattle.rewriter.proofs.turned_back.Tie as tie

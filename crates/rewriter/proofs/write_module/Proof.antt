@@ -4,8 +4,7 @@ use Rattle.rewriter.specs.Start.{start-inside}
 use Rattle.transform.specs.Contract.{hereAt, Asks}
 use Rattle.records.specs.Forest.{size}
 use Prim.Native.Nat.{ℕ}
-use mathlib.Core.List.{List}
-use mathlib.Core.Path.{_≡_, sym, subst, _∙_}
+use mathlib.Core.Path.{sym, subst, _∙_}
 use borrow.Author.Needs.{needs}
 use Rattle.rewriter.proofs.write_module.Statement.{statement}
 use Rattle.rewriter.proofs.write_module.Tie as tie

@@ -1,3 +1,5 @@
+-- The walkers that call one another: each need is a law of specs/Steps*.antt, Copies.antt or Plans.antt. The measure is the words left, and for the walkers of one
+-- place a rank.
 use Rattle.transform.specs.StepsClasses.{no-constructor, first-at, elements-plain, elements-none, elements-asks, elements-wrote, before-asks, constructor-asks, constructor-inside, behind-asks, bare-wrote, arity-few, one-le, one-no, one-yes, stack-outer, stack-asks, body-room, block-room, body-wrote, block-wrote, alias-none, count-plan, inside-asks, few-flags, body-inside, body-is, body-later, body-deep, body-id, body-default, class-heritage, class-place, class-state, class-body-asks, class-wrote, entries-none, entries-kids, entries-inside, entries-asks, entries-wrote, decorators-asks, assignment-entries, entries-few, entries-end, assignment-wrote, queue-silent, queue-place, queue-state, queue-calls, queue-plain, queue-assignment, calls-few, assignment-end, queue-wrote, class-parts, statement-class, statement-queue, statement-end, statement-few, statement-emitted}
 use Rattle.counter.specs.Totals.{note-at}
 use Rattle.transform.specs.Copies.{copies, copied-emits}
@@ -37,24 +39,22 @@ use lib.ListN.{length}
 use Prim.Native.Nat.{_+_, _*_, _-_, _≤_}
 use mathlib.Core.Path.{refl, ap, sym, _∙_}
 use Rattle.transform.specs.StepsRecords.{kept-size, emit-kept, list-size, emit-list, expression-size, emit-expression, declared-size, emit-declared, module-size, emit-module, module-asks, module-inside, emit-inside, asks-one, one-20, next-small, member-size, emit-member, list-3, list-33, list-39, plain-rest, constructor-30, member-30, member-31, member-32, kind-small, emit-rest, asks-next, next-size}
-use Rattle.transform.specs.Steps.{asks-row, asks-kids, asks-words, size-more, emit-none, emit-past, emit-add, length-words}
-use Rattle.transform.specs.Contract.{hereAt, afterAt, Asks, Moved, Emitted, memberWords}
+use Rattle.transform.specs.Steps.{asks-kids, asks-words, emit-none, emit-add, length-words}
+use Rattle.transform.specs.Contract.{hereAt, Asks, Emitted, memberWords}
 use Rattle.counter.specs.declared.Scope.{Scope}
 use Rattle.counter.specs.declared.Count.{Count}
-use Rattle.counter.specs.Contract.{stateOf}
 use Rattle.walk_laws.specs.Kinds.{isElementKind, class-one}
 use Rattle.inspect.specs.Class.{constructor-at}
 use Rattle.inspect.specs.Child.{opt-none}
-use Rattle.records.specs.Place.{labelAt, kidsAt, arityAt, endOf, end-low}
-use Rattle.records.specs.Forest.{size, countF, count-size}
-use Rattle.words.specs.Word.{kindOf, kind-lt}
-use lib.ListN.{length, getD}
+use Rattle.records.specs.Place.{labelAt, arityAt, end-low}
+use Rattle.records.specs.Forest.{size, count-size}
+use lib.ListN.{length}
 use borrow.Author.Tests.{eq-eqb, not-true, not-false}
 use borrow.Author.Needs.{needs}
 use native.Mathlib.Omega.{arith}
-use Prim.Native.Nat.{suc, _+_, _*_, _-_, _≤_}
-use mathlib.Core.Logic.{_⊎_, inl, inr}
-use mathlib.Core.Bool.{Bool, true, false, _&&_}
+use Prim.Native.Nat.{_+_, _*_, _-_, _≤_}
+use mathlib.Core.Logic.{inl, inr}
+use mathlib.Core.Bool.{true, false}
 use mathlib.Core.Path.{_≡_, refl, ap, sym, subst, _∙_}
 use Prim.Native.Nat.{ℕ, _<_}
 use borrow.Fn.Kinds.{In}
@@ -120,7 +120,6 @@ use Rattle.transform.proofs.+bare+call+calls+class_body+class_statement
 use Rattle.transform.proofs.queue.Reads as queue
 use Rattle.transform.proofs.queue.Kinds as queue-kinds
 use Rattle.transform.proofs.+bare+call+calls+class_body+class_statement+create_assignment+declared+elements+entries+expression+first_entries+indexed+kept+list+live_class+member+parameter+parameters+program+queue+record+records+transform_class+transform_decorators_of_parameters.Lts-queue as queue-lts
-use Rattle.transform.proofs.record.Reads as «record»
 use Rattle.transform.proofs.record.Kinds as record-kinds
 use Rattle.transform.proofs.+bare+call+calls+class_body+class_statement+create_assignment+declared+elements+entries+expression+first_entries+indexed+kept+list+live_class+member+parameter+parameters+program+queue+record+records+transform_class+transform_decorators_of_parameters.Lts-record as record-lts
 use Rattle.transform.proofs.records.Reads as records

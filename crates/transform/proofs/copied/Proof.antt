@@ -8,11 +8,6 @@ use Prim.Native.Nat.{_-_}
 use mathlib.Core.Path.{refl}
 use Rattle.transform.proofs.copied.Statement.{statement}
 use Rattle.transform.proofs.copied.Tie as tie
-use Rattle.transform.proofs.copied.Reads as reads
-use Rattle.transform.proofs.copied.Lts as lts
-use Rattle.inspect.proofs.kind_at.Reads as kind-at-reads
-use Rattle.inspect.proofs.payload_at.Reads as payload-at-reads
-use Rattle.transform.proofs.put.Reads as put-reads
 
 abbrev Inv-loop : tie.InvT-loop
 Inv-loop ws at e s c out₀ pos i₀ p₀ out i p = Copying ws at e c out₀ pos i out p

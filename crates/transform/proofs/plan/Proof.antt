@@ -4,7 +4,6 @@ use mathlib.Core.Path.{refl, _∙_}
 use Prim.Native.Nat.{_+_}
 use native.Mathlib.Omega.{arith}
 use lib.ListN.{getD}
-use lib.Dec.{eqb}
 use borrow.Author.Needs.{needs}
 use mathlib.Core.Logic.{inr}
 use Rattle.records.specs.Forest.{takeF}

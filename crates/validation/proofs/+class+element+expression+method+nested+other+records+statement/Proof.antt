@@ -1,5 +1,5 @@
 -- The walkers, one cycle: the depth left falls from a record to its children; each way through a walker by its law of specs/Walks.antt.
-use mathlib.Core.Path.{_≡_, refl, sym, ap, _∙_}
+use mathlib.Core.Path.{refl, sym, _∙_}
 use Prim.Native.Nat.{ℕ, _+_, _*_, _-_, _<_, _≤_}
 use native.Mathlib.Omega.{arith}
 use lib.ListN.{replicate, getD}
@@ -7,7 +7,7 @@ use borrow.Author.Needs.{needs}
 use borrow.Fn.Kinds.{In}
 use borrow.Fn.PlainCycle.{Measures, is, falls, and}
 use Rattle.validation.specs.Walks.{walked-end, walked-fault, walked-none, walked-stop, walked-then, walked-last, walked-as, here-depth, here-as, nested-as, plain, loop-done, loop-stop, loop-here, loop-depth, loop-stop-nested, loop-next-nested, loop-leaf, loop-stop-below, loop-next-below, loop-down, block-children, class-statement-children, class-expression-children, function-children, class-children, method-children, static-block-children, decorators-children, body-children, parameters-children, parameter-children, code-children, module-children, leaf-children, statement-children, expression-children, field-children}
-use Rattle.validation.specs.Walked.{Walked, Here, Rest}
+use Rattle.validation.specs.Walked.{Rest}
 use Rattle.words.specs.Word.{kindOf, payloadOf, children-le, payload-lt}
 use Rattle.grammar.specs.Scan.{place}
 use Rattle.grammar.specs.Grammar.{slot}

@@ -1,10 +1,10 @@
 -- `child_count`: the sets of kinds give the shape of the kind.
-use mathlib.Core.Path.{_≡_, _∙_, sym}
+use mathlib.Core.Path.{_∙_, sym}
 use Prim.Native.Nat.{_<_}
 use native.Mathlib.Omega.{arith}
 use borrow.Author.Needs.{needs}
 use Rattle.words.specs.Word.{kindOf, payloadOf, kind-lt, payload-lt}
-use Rattle.words.specs.Shape.{bitOf, one, many, apart, bit-one, shape-children, many-children, few-children}
+use Rattle.words.specs.Shape.{one, many, apart, bit-one, shape-children, many-children, few-children}
 use Rattle.words.proofs.child_count.Statement.{statement}
 use Rattle.words.proofs.child_count.Tie as tie
 

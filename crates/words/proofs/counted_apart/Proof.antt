@@ -1,5 +1,5 @@
 -- `counted_apart`: the shapes of the kinds that are apart.
-use mathlib.Core.Path.{ap, sym, _∙_}
+use mathlib.Core.Path.{sym}
 use native.Mathlib.Omega.{arith}
 use borrow.Author.Needs.{needs}
 use Rattle.words.specs.Table.{lookup}

@@ -1,6 +1,5 @@
 -- `kind_bit`: a shift by the kind divides by 2 ^ kind, and the mask of one bit is a remainder.
-use mathlib.Core.Path.{_≡_}
-use Prim.Native.Nat.{_/_, _%_, _^_}
+use Prim.Native.Nat.{_/_, _^_}
 use native.Mathlib.Omega.{arith}
 use lib.Bits.{and-mask}
 use borrow.Author.Needs.{needs}
