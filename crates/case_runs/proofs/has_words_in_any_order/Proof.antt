@@ -1,4 +1,4 @@
--- `has_words_in_any_order`: both lengths, and each word of one among those of the other.
+-- `has_words_in_any_order`: it stays in bounds and ends.
 use borrow.Author.Needs.{needs}
 use lib.ListN.{length}
 use native.Mathlib.Omega.{arith}

@@ -1,4 +1,4 @@
--- `occurs`: the word is compared with one after the other.
+-- `occurs`: it stays in bounds and ends.
 use borrow.Author.Needs.{needs}
 use lib.ListN.{length}
 use native.Mathlib.Omega.{arith}

@@ -42,13 +42,17 @@ use Rattle.inspect.proofs.Reader.Laws as T′
 use Rattle.inspect.proofs.Held.{B}
 use Rattle.inspect.proofs.Reader.new as new
 use Rattle.inspect.proofs.Reader.new.Symbol as new-def
+use Rattle.inspect.proofs.Reader.new.Symbol.{name as #new}
 use Rattle.inspect.proofs.Reader.new.Met as new-thm
 use Rattle.inspect.proofs.Reader.behind as behind
 use Rattle.inspect.proofs.Reader.behind.Symbol as behind-def
+use Rattle.inspect.proofs.Reader.behind.Symbol.{name as #behind}
 use Rattle.inspect.proofs.Reader.behind.Met as behind-thm
 use Rattle.inspect.proofs.Reader.word as word
 use Rattle.inspect.proofs.Reader.word.Symbol as word-def
+use Rattle.inspect.proofs.Reader.word.Symbol.{name as #word}
 use Rattle.inspect.proofs.Reader.word.Met as word-thm
+use Rattle.inspect.proofs.word_behind.Key.{name as #word-behind}
 use Rattle.inspect.proofs.word_behind as word-behind
 use Rattle.inspect.proofs.word_behind.Statement as stated
 use Rattle.inspect.proofs.word_behind.Code as code

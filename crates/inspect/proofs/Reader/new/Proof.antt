@@ -35,6 +35,7 @@ use denote.Exit.{yes}
 use Rattle.inspect.specs.declared.Reader.{Reader}
 use Rattle.inspect.proofs.Reader as T
 use Rattle.inspect.proofs.Reader.Laws as T′
+use Rattle.inspect.proofs.Reader.new.Key.{name as #new}
 use Rattle.inspect.proofs.Reader.new as new
 use Rattle.inspect.proofs.Reader.new.Statement as stated
 use Rattle.inspect.proofs.Reader.new.Code as code
