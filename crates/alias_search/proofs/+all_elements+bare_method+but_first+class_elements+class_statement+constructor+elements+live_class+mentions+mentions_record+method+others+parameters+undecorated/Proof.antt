@@ -1,5 +1,6 @@
 -- The walkers of the search, which call one another: `class_statement`, `mentions_record`, `method` and the others.
 -- A call goes on to a later place, or to a walker of a lower rank at the same one. A loop goes on where what is left to search is all that can hold the symbol.
+use Rattle.inspect.specs.Class.{constructor-at as constructor-label}
 use Rattle.alias_search.specs.Walk.{Left, left-start, left-hit, left-next, left-past, left-all, whole-part, each-word, each-kids, until-other, until-rest, record-word, record-kids, inner-31, inner-32, inner-other, inner-constructor, inner-method, whole-kids, kids-none, lead-other, lead-gone, lead-whole, method-hit, method-rest, class-hit, class-rest, elements-hit, elements-miss, elements-there, elements-behind, first-place, elements-plain, elements-public, elements-private, elements-gone, symbol-other, symbol-same, statement-dead, statement-named, statement-class, live-within, found-low}
 use Rattle.alias_search.specs.Read.{mentions-gone}
 use Rattle.alias_search.specs.Mentions.{Mode, whole, gone, lead, until, each, elements as elements-mode, searched, behind, ofField, ofMethod, mentionsBy, mentions as mentions-all}

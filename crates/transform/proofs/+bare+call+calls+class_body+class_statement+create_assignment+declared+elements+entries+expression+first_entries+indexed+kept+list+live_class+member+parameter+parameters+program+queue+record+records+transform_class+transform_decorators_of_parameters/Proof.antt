@@ -120,6 +120,7 @@ use Rattle.transform.proofs.+bare+call+calls+class_body+class_statement
 use Rattle.transform.proofs.queue.Reads as queue
 use Rattle.transform.proofs.queue.Kinds as queue-kinds
 use Rattle.transform.proofs.+bare+call+calls+class_body+class_statement+create_assignment+declared+elements+entries+expression+first_entries+indexed+kept+list+live_class+member+parameter+parameters+program+queue+record+records+transform_class+transform_decorators_of_parameters.Lts-queue as queue-lts
+use Rattle.transform.proofs.record.Reads as «record»
 use Rattle.transform.proofs.record.Kinds as record-kinds
 use Rattle.transform.proofs.+bare+call+calls+class_body+class_statement+create_assignment+declared+elements+entries+expression+first_entries+indexed+kept+list+live_class+member+parameter+parameters+program+queue+record+records+transform_class+transform_decorators_of_parameters.Lts-record as record-lts
 use Rattle.transform.proofs.records.Reads as records
