@@ -1,9 +1,9 @@
 -- One law for each step of the walkers that count. Assumes nothing.
-use mathlib.Core.Path.{_≡_, refl, ap, sym, subst, _∙_}
+use mathlib.Core.Path.{_≡_, refl, ap, sym, _∙_}
 use mathlib.Core.Bool.{Bool, true, false, _&&_}
 use mathlib.Core.Option.{Option, none, some}
 use mathlib.Core.List.{List}
-use Prim.Native.Nat.{ℕ, suc, _+_, _-_, _*_, _<_, _≤_}
+use Prim.Native.Nat.{ℕ, _+_, _-_, _*_, _<_, _≤_}
 use native.Mathlib.Numerals.{add-one}
 use native.Mathlib.Omega.{arith}
 use lib.ListN.{length, getD}
@@ -17,7 +17,7 @@ use Rattle.rewriting.specs.Visit.{Around, State, Result, classSymbol, visit, vi
 use Rattle.rewriting.specs.Facts.{Within, counter}
 use Rattle.inspect.specs.Child.{optOf, opt-is, opt-no, opt-some, opt-none}
 use Rattle.walk_laws.specs.Rows.{visitAt, fresh, row-none, row-past, after-add, one-after, kids-visit}
-use Rattle.walk_laws.specs.After.{keyAfter, memberAfter, mentioned, aliasAfter, defaultAfter, decoratedAfter, classAfter, after-expression, after-dead, after-live}
+use Rattle.walk_laws.specs.After.{keyAfter, memberAfter, mentioned, classAfter, after-expression, after-dead, after-live}
 use Rattle.walk_laws.specs.Kinds.{isElementKind, role-4, role-20, after-rest, element-after, class-one, class-kind, class-row-one, class-kids, class-here}
 use Rattle.counter.specs.Contract.{aroundOf, stateOf, Below, elementsFrom, aliasIn, Ready, Counts}
 use Rattle.counter.specs.declared.Scope.{Scope}
@@ -95,10 +95,6 @@ module _ (ws : List ℕ) (at : ℕ) (a : Scope) (n d : ℕ) where
         ∙ ap (λ (p : ℕ). visitAt ws p k (aroundOf a) (stateOf m e) .after) (sym (x .place))
         ∙ y .state;
   }
-
-  -- all of k records: j, and then those that are left
-  pub count-rest : (j k m e q : ℕ) {r : Counted} → j ≤ k → Counts ws at j a n d (record { at = q; next = m; default = e }) → Counts ws q (k - j) a m e r → Counts ws at k a n d r
-  count-rest j k m e q {r} h x y = let s : j + (k - j) ≡ k = omega arith in subst (λ (i : ℕ). Counts ws at i a n d r) s (count-add j (k - j) m e q x y)
 
   -- one record, by the state behind it
   pub count-one : {r : Counted} → at < length ws → r .at ≡ endOf ws (at + 1) (arityAt ws at) →
@@ -289,26 +285,6 @@ module _ (i n d : ℕ) where
   pub taken-fresh : n < 67108864 → i ≡ 67108864 → d ≡ 67108864 → stateOf (n + 1) n ≡ classSymbol (optOf i) (optOf d) (stateOf n d) .after
   unfolding classSymbol stateOf
   taken-fresh h e f = rw (opt-no i e, opt-no d f, opt-some n h, add-one n)
-
-  pub symbols-none : (b m : Bool) → b ≡ false → n ≡ classAfter b (optOf i) m (stateOf n d)
-  unfolding classAfter stateOf
-  symbols-none b m e = rw e
-
-  pub symbols-alias : (b m : Bool) → b ≡ true → (i ≡ 67108864 → ⊥) → m ≡ true → n + 2 ≡ classAfter b (optOf i) m (stateOf n d)
-  unfolding classAfter decoratedAfter aliasAfter stateOf
-  symbols-alias b m e h t = let s : n + 2 ≡ suc (suc n) = omega arith in rw (e, opt-is i h, t) s
-
-  pub symbols-inner : (b m : Bool) → b ≡ true → (i ≡ 67108864 → ⊥) → m ≡ false → n + 1 ≡ classAfter b (optOf i) m (stateOf n d)
-  unfolding classAfter decoratedAfter aliasAfter stateOf
-  symbols-inner b m e h t = rw (e, opt-is i h, t) (add-one n)
-
-  pub symbols-kept : (b m : Bool) → b ≡ true → i ≡ 67108864 → (d ≡ 67108864 → ⊥) → n ≡ classAfter b (optOf i) m (stateOf n d)
-  unfolding classAfter decoratedAfter defaultAfter stateOf
-  symbols-kept b m e h t = rw (e, opt-no i h, opt-is d t)
-
-  pub symbols-default : (b m : Bool) → b ≡ true → i ≡ 67108864 → d ≡ 67108864 → n + 1 ≡ classAfter b (optOf i) m (stateOf n d)
-  unfolding classAfter decoratedAfter defaultAfter stateOf
-  symbols-default b m e h t = rw (e, opt-no i h, opt-no d t) (add-one n)
 
 module _ (n d : ℕ) where
   pub key-plain : (b : Bool) → b ≡ true → stateOf n d ≡ keyAfter b (stateOf n d)

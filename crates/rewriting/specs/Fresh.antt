@@ -3,11 +3,11 @@ use mathlib.Core.Path.{_≡_, refl, sym, _∙_, subst}
 use mathlib.Core.Bool.{Bool, true, false, _&&_}
 use mathlib.Core.Option.{Option, none, some}
 use mathlib.Core.List.{List, [], _∷_, _++_}
-use Prim.Native.Nat.{ℕ, suc, _+_, _*_, _≤_}
+use Prim.Native.Nat.{ℕ, suc, _+_, _≤_}
 use native.Mathlib.Nat.{add-zero}
 use native.Mathlib.Omega.{arith}
 use lib.ListN.{length}
-use Rattle.records.specs.Forest.{end, node, size, takeF, dropF, anyF}
+use Rattle.records.specs.Forest.{end, node, takeF, dropF, anyF}
 use Rattle.records.specs.Label.{Label, Origin, made, read, Trees, _∶_}
 use Rattle.rewriting.specs.Parts.{Role, module′, list, statement, expression, method, constructor, plain, field, roleOf, decorators, decoratorsOf, bareMethod, bareField, isDecoratedMember, hasPlainKey, elementsOf, idOf, isDecorated, isLive, classKids}
 use Rattle.rewriting.specs.Visit.{Around, State, Result, Taken, Named, sign, signed, classSymbol, nameIf, nameOf, called₁, called₂, memberIf, member, isRef, namedSymbols, symbolsOf, decorated₁, decorated₂, liveClassIf, liveClass, deadClass, classIf, kept, own, signedBy, since, work, inside, entering, join, _then_, visit}
@@ -151,6 +151,3 @@ numbered-length n m (l ∷ fs) h = omega (arith, numbered-length (suc n) m fs (h
 -- the counter grows by the number of fresh symbols
 pub fresh-length : (f : Trees) (around : Around) (s : State) → s .next + length (visit around f s .fresh) ≡ visit around f s .after .next
 fresh-length f around s = numbered-length (s .next) (visit around f s .after .next) (visit around f s .fresh) (visit-fresh f around s)
-
-pub fresh-few : (f : Trees) (around : Around) (s : State) → length (visit around f s .fresh) ≤ 2 * size f
-fresh-few f around s = omega (arith, fresh-length f around s, counter f around s)
