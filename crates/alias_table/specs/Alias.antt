@@ -20,7 +20,8 @@ use Rattle.rewriting.specs.Visit.{Result, isRef, visit}
 use Rattle.walk_laws.specs.Rows.{visitAt, fresh, kids-visit}
 use Rattle.walk_laws.specs.After.{mentioned}
 use Rattle.walk_laws.specs.Slots.{Standing, standing-at}
-use Rattle.walk_laws.specs.Classes.{rk, scope, bodyAt, atHeritage, atBody, els, body-in, own-elements, elements-visited}
+use Rattle.walk_laws.specs.ClassPlan.{rk, scope, bodyAt, atHeritage, atBody, els}
+use Rattle.walk_laws.specs.ClassFacts.{body-in, own-elements, elements-visited}
 use Rattle.alias_search.specs.Mentions.{isSymbol, mentions}
 use Rattle.alias_search.specs.Older.{Older, visit-older}
 use Rattle.alias_search.specs.Formed.{Formed}

@@ -13,7 +13,7 @@ use Rattle.class_stack.specs.declared.ClassStack.{ClassStack}
 use Rattle.inspect.specs.Child.{optOf}
 use Rattle.inspect.specs.Class.{countCalled}
 use Rattle.walk_laws.specs.Written.{written}
-use Rattle.walk_laws.specs.Classes.{planOf, under, optional, blockWords, isSome, one, rk, plan, queue}
+use Rattle.walk_laws.specs.ClassPlan.{planOf, under, optional, blockWords, isSome, one, rk, plan, queue}
 use Rattle.counter.specs.Contract.{stateOf, aliasIn}
 use Rattle.counter.specs.declared.Scope.{Scope}
 use Rattle.counter.specs.declared.Count.{Count}

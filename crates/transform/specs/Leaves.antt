@@ -20,7 +20,7 @@ use Rattle.inspect.specs.Child.{optOf, opt-is, opt-no, opt-some, kind-past, sec
 use Rattle.inspect.specs.Class.{key-second, plain-kind}
 use Rattle.walk_laws.specs.Written.{wordBy}
 use Rattle.walk_laws.specs.Calls.{symbolOf, prefixWords, nameWord}
-use Rattle.walk_laws.specs.Classes.{under, optional, blockWords, exportWords, isSome, one}
+use Rattle.walk_laws.specs.ClassPlan.{under, optional, blockWords, exportWords, isSome, one}
 use Rattle.counter.specs.declared.Scope.{Scope}
 use Rattle.transform.specs.Under.{wordUnder, under-push}
 use Rattle.transform.specs.Contract.{wordBelow, takesKey}

@@ -26,7 +26,8 @@ use Rattle.walk_laws.specs.Slots.{Standing, RowFits, standing-at, kids-row, ari
 use Rattle.walk_laws.specs.Default.{class-default}
 use Rattle.walk_laws.specs.Elements.{below-29}
 use Rattle.walk_laws.specs.Calls.{symbolOf, call-none, call-count, calls-more}
-use Rattle.walk_laws.specs.Classes.{Plan, either, decoratedPlan, planOf, rk, scope, bodyAt, atBody, atEnd, els, queue, plan, class-is, body-in, body-kind, own-elements, elements-visited}
+use Rattle.walk_laws.specs.ClassPlan.{Plan, either, decoratedPlan, planOf, rk, scope, bodyAt, atBody, atEnd, els, queue, plan}
+use Rattle.walk_laws.specs.ClassFacts.{class-is, body-in, body-kind, own-elements, elements-visited}
 use Rattle.counter.specs.Contract.{aroundOf, stateOf, aliasIn, Below, elementsFrom, Ready, Counts}
 use Rattle.counter.specs.Steps.{below-more, counts-high, counts-within}
 use Rattle.counter.specs.declared.Scope.{Scope}

@@ -28,7 +28,7 @@ use Rattle.walk_laws.specs.After.{keyAfter, memberAfter}
 use Rattle.walk_laws.specs.Kinds.{isElementKind, kids-count, element-after, class-kind}
 use Rattle.walk_laws.specs.Elements.{Marked, Called, keyAt, parametersAt, decorators-nth, parameters-nth, parameter-marked, method-called, member-keyed, plain-here}
 use Rattle.walk_laws.specs.Calls.{symbolOf, argumentWords, callWords, entries, indexed-append, indexed-count, indexed-written, of-parameter, entries-field, entries-method, call-none, call-one, call-count}
-use Rattle.walk_laws.specs.Classes.{rk}
+use Rattle.walk_laws.specs.ClassPlan.{rk}
 use Rattle.counter.specs.Contract.{aroundOf, stateOf, Below, Ready, Counts}
 use Rattle.counter.specs.Steps.{below-more}
 use Rattle.counter.specs.declared.Scope.{Scope}

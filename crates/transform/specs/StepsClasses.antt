@@ -33,7 +33,9 @@ use Rattle.walk_laws.specs.Roles.{constructor-kind}
 use Rattle.walk_laws.specs.Members.{bareWords, keyWords}
 use Rattle.walk_laws.specs.Elements.{Called, parametersAt, keyAt, method-called}
 use Rattle.walk_laws.specs.ClassPlaces.{class-arity}
-use Rattle.walk_laws.specs.Classes.{planOf, under, optional, exportWords, isSome, one, rk, scope, heritageAt, bodyAt, atHeritage, atBody, ds, els, queue, plan, front, block, queueCount, headWords, elementWords, bodyWords, classWords, assignmentWords, queueWords, first-none, first-written, first-entries, class-written, class-count, class-in, class-is, decorators-are, body-in, body-kind, body-behind, body-after}
+use Rattle.walk_laws.specs.ClassPlan.{planOf, under, optional, exportWords, isSome, one, rk, scope, heritageAt, bodyAt, atHeritage, atBody, ds, els, queue, plan, front, block, queueCount, headWords, elementWords, bodyWords, classWords, assignmentWords, queueWords}
+use Rattle.walk_laws.specs.ClassFacts.{class-in, class-is, decorators-are, body-in, body-kind, body-behind, body-after}
+use Rattle.walk_laws.specs.Classes.{first-none, first-written, first-entries, class-written, class-count}
 use Rattle.counter.specs.Contract.{aroundOf, stateOf, Below, Counts}
 use Rattle.counter.specs.declared.Scope.{Scope}
 use Rattle.counter.specs.declared.Count.{Count}

@@ -10,7 +10,7 @@ use Rattle.records.specs.Label.{Label, Trees, repay, is, wordAt, words, _∶_}
 use Rattle.rewriting.specs.Visit.{isRef, toAlias}
 use Rattle.class_stack.specs.Renaming.{Sub, renameL}
 use Rattle.walk_laws.specs.Written.{wordBy, written}
-use Rattle.walk_laws.specs.Classes.{under}
+use Rattle.walk_laws.specs.ClassPlan.{under}
 
 unfoldable pub wordUnder : List Sub → ℕ → ℕ → ℕ
 wordUnder ss k p = wordAt (renameL ss (k ∶ p))

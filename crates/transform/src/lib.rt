@@ -27,7 +27,7 @@ ghost use Rattle.walk_laws.specs.Slots.{RowFits};
 ghost use Rattle.walk_laws.specs.Kinds.{isElementKind};
 ghost use Rattle.walk_laws.specs.Members.{parametersWords};
 ghost use Rattle.walk_laws.specs.Calls.{symbolOf, prefixWords, nameWord, argumentWords, entries};
-ghost use Rattle.walk_laws.specs.Classes.{optional, one, exportWords, ds, classWords, queueWords, queueCount, atBody, bodyAt};
+ghost use Rattle.walk_laws.specs.ClassPlan.{optional, one, exportWords, ds, classWords, queueWords, queueCount, atBody, bodyAt};
 ghost use Rattle.counter.specs.Contract.{aroundOf, stateOf, aliasIn, Below, Ready, Annotated};
 ghost use Rattle.transform.specs.Nest.{nestAt};
 ghost use Rattle.transform.specs.Contract.{wordBelow, wordsOf, stateIn, hereAt, callsAt, afterAt, kidsHere, Asks, Moved, Emitted, Queues, behindWords, memberWords, takesKey};

@@ -16,4 +16,7 @@ pub mod Alias
 pub mod ClassParts
 pub mod ClassPlaces
 pub mod First
+pub mod ClassPlan
+pub mod Planned
+pub mod ClassFacts
 pub mod Classes

@@ -7,7 +7,7 @@ use Rattle.transform.specs.Steps.{noted-next, asks-kids}
 use Rattle.transform.specs.Plans.{body-fits}
 use Rattle.transform.specs.ClassWords.{scopeOf, frontOf, blockOf}
 use Rattle.transform.specs.Contract.{wordBelow, Asks, callsAt}
-use Rattle.walk_laws.specs.Classes.{queueWords}
+use Rattle.walk_laws.specs.ClassPlan.{queueWords}
 use Rattle.counter.specs.Steps.{counts-on}
 use Rattle.output.specs.Part.{wrote-part, wrote-part-past}
 use lib.Dec.{eqb}

@@ -1,6 +1,6 @@
 -- `block_count`: a block in a class with a private-in test that is decorated or has calls.
 use borrow.Author.Tests.{ne-eqb, not-true, not-false}
-use Rattle.walk_laws.specs.Classes.{one}
+use Rattle.walk_laws.specs.ClassPlan.{one}
 use Rattle.transform.specs.ClassWords.{blockOf}
 use Rattle.transform.proofs.block_count.Statement.{statement}
 use Rattle.transform.proofs.block_count.Tie as tie

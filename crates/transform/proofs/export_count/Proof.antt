@@ -1,6 +1,6 @@
 -- `export_count`: 0 for a statement that isn't exported.
 use borrow.Author.Tests.{ne-eqb}
-use Rattle.walk_laws.specs.Classes.{one}
+use Rattle.walk_laws.specs.ClassPlan.{one}
 use Rattle.transform.proofs.export_count.Statement.{statement}
 use Rattle.transform.proofs.export_count.Tie as tie
 

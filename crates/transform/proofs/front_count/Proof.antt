@@ -1,6 +1,6 @@
 -- `front_count`: a block if there are an alias and a static element.
 use Rattle.inspect.specs.Child.{opt-is, opt-no}
-use Rattle.walk_laws.specs.Classes.{isSome, one}
+use Rattle.walk_laws.specs.ClassPlan.{isSome, one}
 use Rattle.transform.specs.ClassWords.{frontOf}
 use Rattle.transform.proofs.front_count.Statement.{statement}
 use Rattle.transform.proofs.front_count.Tie as tie
