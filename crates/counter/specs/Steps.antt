@@ -3,7 +3,7 @@ use mathlib.Core.Path.{_≡_, refl, ap, sym, _∙_}
 use mathlib.Core.Bool.{Bool, true, false, _&&_}
 use mathlib.Core.Option.{Option, none, some}
 use mathlib.Core.List.{List}
-use Prim.Native.Nat.{ℕ, _+_, _-_, _*_, _<_, _≤_}
+use Prim.Native.Nat.{ℕ, _+_, _*_, _<_, _≤_}
 use native.Mathlib.Numerals.{add-one}
 use native.Mathlib.Omega.{arith}
 use lib.ListN.{length, getD}
@@ -16,9 +16,10 @@ use Rattle.rewriting.specs.Parts.{tree, elementsOf, idOf, isDecorated, isDecora
 use Rattle.rewriting.specs.Visit.{Around, State, Result, classSymbol, visit, visitOne}
 use Rattle.rewriting.specs.Facts.{Within, counter}
 use Rattle.inspect.specs.Child.{optOf, opt-is, opt-no, opt-some, opt-none}
-use Rattle.walk_laws.specs.Rows.{visitAt, fresh, row-none, row-past, after-add, one-after, kids-visit}
+use Rattle.walk_laws.specs.Rows.{visitAt, fresh, row-none, row-past, after-add, one-after, kids-visit, plain-here}
 use Rattle.walk_laws.specs.After.{keyAfter, memberAfter, mentioned, classAfter, after-expression, after-dead, after-live}
-use Rattle.walk_laws.specs.Kinds.{isElementKind, role-4, role-20, after-rest, element-after, class-one, class-kind, class-row-one, class-kids, class-here}
+use Rattle.walk_laws.specs.Roles.{role-4, role-20, plain-26}
+use Rattle.walk_laws.specs.Kinds.{isElementKind, after-rest, element-after, class-one, class-inside, class-kind, class-row-one, class-kids}
 use Rattle.counter.specs.Contract.{aroundOf, stateOf, Below, elementsFrom, aliasIn, Ready, Counts}
 use Rattle.counter.specs.declared.Scope.{Scope}
 use Rattle.counter.specs.declared.Counted.{Counted}
@@ -239,18 +240,21 @@ module _ {ws notes : List ℕ} {at n : ℕ} (f : Ready ws notes at n) (h : at < 
     search false e v t = unfold classAfter in refl
 
     -- the class visited, and its elements
+    class-here : (sc : Around) → visitAt ws (at + 1) 1 sc (fresh n) .here ≡ tree (labelAt ws (at + 1)) (visit sc (kidsAt ws (at + 1)) (fresh n) .here)
+    class-here sc = plain-here ws sc (at + 1) (fresh n) (class-inside ws (f .whole) at h kind) (plain-26 (labelAt ws (at + 1)) (class-kind ws (f .whole) at h kind))
+
     pub class-at : (sc : Around) → visit sc (kidsAt ws at) (fresh (stateOf n d .next)) .here ≡ tree (labelAt ws (at + 1)) (visit sc (kidsAt ws (at + 1)) (fresh n) .here)
     class-at sc =
         ap (λ (j : ℕ). visit sc (kidsAt ws at) (fresh j) .here) (next-of n d)
         ∙ ap (λ (g : Trees). visit sc g (fresh n) .here) (class-row-one ws (f .whole) at h kind)
-        ∙ (unfold visitAt in class-here ws (f .whole) at h kind sc (fresh n))
+        ∙ (unfold visitAt in class-here sc)
 
     pub elements-at : elementsOf (visit (record { live = true; id = idOf (classKids (kidsAt ws at)) }) (kidsAt ws (at + 1)) (fresh n) .here) ≡ elementsFrom ws at n
     elements-at =
         let sc : Around = record { live = true; id = idOf (classKids (kidsAt ws at)) } in
         sym (unfold elementsFrom in
         ap (λ (o : Option ℕ). elementsOf (classKids (visitAt ws (at + 1) 1 (record { live = true; id = o }) (fresh n) .here))) (sym id-kids)
-        ∙ ap (λ (g : Trees). elementsOf (classKids g)) (class-here ws (f .whole) at h kind sc (fresh n)) ∙ (unfold classKids tree in refl))
+        ∙ ap (λ (g : Trees). elementsOf (classKids g)) (class-here sc) ∙ (unfold classKids tree in refl))
 
     -- a live class: m is the counter once it has its symbols
     pub count-live : (b : Scope) {r : Counted} (m : ℕ) → b .live ≡ true → optOf (b .id) ≡ idOf (kidsAt ws (at + 1)) → isLive (takeF 1 (recordsAt ws (at + 1))) ≡ true →

@@ -17,7 +17,8 @@ use Rattle.rewriting.specs.Visit.{Around, State, Result, classSymbol, namedSymb
 use Rattle.inspect.specs.Child.{optOf, opt-is, opt-no}
 use Rattle.walk_laws.specs.Rows.{visitAt, fresh, kids-visit}
 use Rattle.walk_laws.specs.After.{keyAfter, mentioned, classAfter}
-use Rattle.walk_laws.specs.Kinds.{isElementKind, role-4, role-20, element-two, class-row-one, class-kids}
+use Rattle.walk_laws.specs.Roles.{role-4, role-20}
+use Rattle.walk_laws.specs.Kinds.{isElementKind, element-two, class-row-one, class-kids}
 use Rattle.counter.specs.Contract.{aroundOf, stateOf, aliasIn, elementsFrom, Counts}
 use Rattle.counter.specs.declared.Scope.{Scope}
 use Rattle.counter.specs.declared.Count.{Count}

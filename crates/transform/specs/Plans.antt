@@ -3,16 +3,16 @@ use mathlib.Core.Path.{_≡_, refl, ap, sym, _∙_, subst}
 use mathlib.Core.Bool.{Bool, true, false, _&&_, cond}
 use mathlib.Core.Option.{Option, none, some}
 use mathlib.Core.List.{List, [], _∷_}
-use Prim.Native.Nat.{ℕ, zero, suc, _+_, _-_, _<_, _≤_}
+use Prim.Native.Nat.{ℕ, zero, suc, _+_, _<_, _≤_}
 use native.Mathlib.Numerals.{add-one}
 use native.Mathlib.Omega.{arith}
 use lib.Dec.{eqb}
-use lib.ListN.{length, getD, replicate, length-replicate}
+use lib.ListN.{length, getD, replicate}
 use borrow.Author.Tests.{eqb-true, eqb-false}
 use Rattle.records.specs.Forest.{end, node, takeF, dropF, countF, countF-append, count-size, size-take-drop}
 use Rattle.records.specs.Label.{Label, Trees, _∶_}
 use Rattle.records.specs.Place.{recordsAt, labelAt, arityAt, kidsAt, endOf, records-first, size-records}
-use Rattle.grammar.specs.Grammar.{element, module′, slotsBelow}
+use Rattle.grammar.specs.Grammar.{element, module′}
 use Rattle.grammar.specs.WellFormed.{Allowed, Fits}
 use Rattle.rewriting.specs.Parts.{Role, module′ as moduleRole, list, statement, expression, method, constructor, plain, field, roleOf, decorators, decoratorsOf, bareMethod, bareField, isDecoratedMember, hasPlainKey, elementsOf, idOf, hasPrivateIn, hasStatic, isDecorated, isLive}
 use Rattle.rewriting.specs.Visit.{Around, State, Result, Taken, classSymbol, nameIf, nameOf, called₁, called₂, memberIf, member, kept, deadClass, own, since, work, inside, entering, join, _then_, visit, visitOne}
@@ -22,12 +22,13 @@ use Rattle.inspect.specs.Child.{optOf, opt-is, opt-no, opt-some, opt-none}
 use Rattle.inspect.specs.Class.{countCalled}
 use Rattle.walk_laws.specs.Rows.{visitAt, fresh, row-none}
 use Rattle.walk_laws.specs.After.{mentioned}
-use Rattle.walk_laws.specs.Slots.{Standing, RowFits, standing-at, kids-row, arity-slots, row-first}
+use Rattle.walk_laws.specs.Slots.{RowFits, standing-at, row-first}
+use Rattle.walk_laws.specs.Kinds.{class-kind}
 use Rattle.walk_laws.specs.Default.{class-default}
-use Rattle.walk_laws.specs.Elements.{below-29}
+use Rattle.walk_laws.specs.First.{elements-row}
 use Rattle.walk_laws.specs.Calls.{symbolOf, call-none, call-count, calls-more}
 use Rattle.walk_laws.specs.ClassPlan.{Plan, either, decoratedPlan, planOf, rk, scope, bodyAt, atBody, atEnd, els, queue, plan}
-use Rattle.walk_laws.specs.ClassFacts.{class-is, body-in, body-kind, own-elements, elements-visited}
+use Rattle.walk_laws.specs.ClassFacts.{body-in, body-kind, own-elements, elements-visited}
 use Rattle.counter.specs.Contract.{aroundOf, stateOf, aliasIn, Below, elementsFrom, Ready, Counts}
 use Rattle.counter.specs.Steps.{below-more, counts-high, counts-within}
 use Rattle.counter.specs.declared.Scope.{Scope}
@@ -260,12 +261,7 @@ module _ (ws : List ℕ) (whole : Fits (module′ ∷ []) (recordsAt ws 0)) (aro
 -- the children of a body are elements
 pub body-fits : (ws : List ℕ) (whole : Fits (module′ ∷ []) (recordsAt ws 0)) (b k : ℕ) → b < length ws → labelAt ws b .kind ≡ 29 → k ≡ arityAt ws b → RowFits ws (b + 1) k (replicate k element)
 body-fits ws whole b k h kind ke =
-    let t : Standing ws b = standing-at ws (module′ ∷ []) whole b h in
-    let e : slotsBelow (t .slot) (labelAt ws b .kind) (labelAt ws b .payload) ≡ replicate (labelAt ws b .payload) element =
-    ap (λ (n : ℕ). slotsBelow (t .slot) n (labelAt ws b .payload)) kind ∙ below-29 (t .slot) (labelAt ws b .payload) in
-    let n : k ≡ labelAt ws b .payload = ke ∙ arity-slots ws b t ∙ ap length e ∙ length-replicate (labelAt ws b .payload) element in
-    subst (λ (m : ℕ). RowFits ws (b + 1) k (replicate m element)) (sym n)
-    (subst (λ (m : ℕ). RowFits ws (b + 1) m (replicate (labelAt ws b .payload) element)) (sym ke) (subst (RowFits ws (b + 1) (arityAt ws b)) e (kids-row ws b t)))
+    subst (λ (n : ℕ). RowFits ws (b + 1) n (replicate n element)) (sym ke) (elements-row ws b (standing-at ws (module′ ∷ []) whole b h) kind)
 
 -- ---- the class statement at `at`
 
@@ -314,7 +310,7 @@ module _ {ws notes : List ℕ} {at n : ℕ} (f : Ready ws notes at n) (h : at < 
   search : isDecorated (rk ws at) ≡ true → aliasIn (getD notes at 0) ≡ mentioned (idOf (rk ws at)) (els ws at n)
   unfolding rk
   search e =
-      f .planned .right at n h kind live e (f .ids (at + 1) (class-is ws (f .whole) at h kind))
+      f .planned .right at n h kind live e (f .ids (at + 1) (class-kind ws (f .whole) at h kind))
       ∙ ap (mentioned (idOf (kidsAt ws (at + 1)))) (elements-from ws (f .whole) at h kind n)
 
   module _ {g : ClassPlan} (p : PlanFrom ws notes at (record { next = r .next; default = r .default }) g) where

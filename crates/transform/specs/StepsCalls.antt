@@ -20,13 +20,13 @@ use Rattle.rewriting.specs.Parts.{tree, decorators, indexed, ofParameters, isMe
 use Rattle.rewriting.specs.Visit.{State, classSymbol, visit, visitOne}
 use Rattle.class_stack.specs.declared.ClassStack.{ClassStack}
 use Rattle.inspect.specs.Child.{optOf, opt-is, opt-none}
-use Rattle.walk_laws.specs.Rows.{visitAt, here-add, calls-add}
+use Rattle.walk_laws.specs.Rows.{visitAt, here-add, calls-add, plain-here}
 use Rattle.walk_laws.specs.Written.{written}
 use Rattle.walk_laws.specs.Single.{Stays, expression-stays}
 use Rattle.walk_laws.specs.Roles.{Sort, isMethod, isProperty, isAccessor, member-sort, is-kind, kind-is, plain-37, decorated-member}
 use Rattle.walk_laws.specs.After.{keyAfter, memberAfter}
 use Rattle.walk_laws.specs.Kinds.{isElementKind, kids-count, element-after, class-kind}
-use Rattle.walk_laws.specs.Elements.{Marked, Called, keyAt, parametersAt, decorators-nth, parameters-nth, parameter-marked, method-called, member-keyed, plain-here}
+use Rattle.walk_laws.specs.Elements.{Marked, Called, keyAt, parametersAt, decorators-nth, parameters-nth, parameter-marked, method-called, member-keyed}
 use Rattle.walk_laws.specs.Calls.{symbolOf, argumentWords, callWords, entries, indexed-append, indexed-count, indexed-written, of-parameter, entries-field, entries-method, call-none, call-one, call-count}
 use Rattle.walk_laws.specs.ClassPlan.{rk}
 use Rattle.counter.specs.Contract.{aroundOf, stateOf, Below, Ready, Counts}

@@ -28,13 +28,13 @@ use Rattle.inspect.specs.Class.{constructs, member-constructor}
 use Rattle.walk_laws.specs.Rows.{visitAt, fresh}
 use Rattle.walk_laws.specs.Written.{wordBy, written, written-end, length-written}
 use Rattle.walk_laws.specs.Slots.{Standing, standing-at}
-use Rattle.walk_laws.specs.Kinds.{isElementKind, kids-count, class-one}
+use Rattle.walk_laws.specs.Kinds.{isElementKind, kids-count, class-one, class-inside, class-kind}
 use Rattle.walk_laws.specs.Roles.{constructor-kind}
 use Rattle.walk_laws.specs.Members.{bareWords, keyWords}
 use Rattle.walk_laws.specs.Elements.{Called, parametersAt, keyAt, method-called}
 use Rattle.walk_laws.specs.ClassPlaces.{class-arity}
 use Rattle.walk_laws.specs.ClassPlan.{planOf, under, optional, exportWords, isSome, one, rk, scope, heritageAt, bodyAt, atHeritage, atBody, ds, els, queue, plan, front, block, queueCount, headWords, elementWords, bodyWords, classWords, assignmentWords, queueWords}
-use Rattle.walk_laws.specs.ClassFacts.{class-in, class-is, decorators-are, body-in, body-kind, body-behind, body-after}
+use Rattle.walk_laws.specs.ClassFacts.{decorators-are, body-in, body-kind, body-behind, body-after}
 use Rattle.walk_laws.specs.Classes.{first-none, first-written, first-entries, class-written, class-count}
 use Rattle.counter.specs.Contract.{aroundOf, stateOf, Below, Counts}
 use Rattle.counter.specs.declared.Scope.{Scope}
@@ -477,7 +477,7 @@ module _ {ws notes : List ℕ} {at n : ℕ} {c : ClassStack} {pos len : ℕ} (f 
   inside-asks q l z =
       let e : at + 1 + 1 ≡ at + 2 = omega arith in
       subst (λ (i : ℕ). Asks ws notes i (arityAt ws (at + 1)) n c q l) e
-      (asks-kids (asks-kids f q l refl h z) q l (class-one ws (f .ready .whole) at h kind) (class-in ws (f .ready .whole) at h kind) z)
+      (asks-kids (asks-kids f q l refl h z) q l (class-one ws (f .ready .whole) at h kind) (class-inside ws (f .ready .whole) at h kind) z)
 
   inside-deep : c .depth + 1 + nestAt ws (at + 2) (arityAt ws (at + 1)) ≤ capacity
   inside-deep =
@@ -487,15 +487,15 @@ module _ {ws notes : List ℕ} {at n : ℕ} {c : ClassStack} {pos len : ℕ} (f 
         f .deep,
         nest-class ws at h kind,
         ap (nestAt ws (at + 1)) (class-one ws (f .ready .whole) at h kind),
-        nest-kids ws (at + 1) (class-in ws (f .ready .whole) at h kind),
+        nest-kids ws (at + 1) (class-inside ws (f .ready .whole) at h kind),
         ap (λ (i : ℕ). nestAt ws i (arityAt ws (at + 1))) e,
       )
 
   pub few-flags : labelAt ws (at + 1) .payload < 8
-  few-flags = flags-few ws (f .ready .whole) (at + 1) (class-in ws (f .ready .whole) at h kind) (class-is ws (f .ready .whole) at h kind)
+  few-flags = flags-few ws (f .ready .whole) (at + 1) (class-inside ws (f .ready .whole) at h kind) (class-kind ws (f .ready .whole) at h kind)
 
   parts-count : arityAt ws (at + 1) ≡ 1 + bit0 (labelAt ws (at + 1) .payload) + (bit2 (labelAt ws (at + 1) .payload) + 1)
-  parts-count = class-arity ws (at + 1) (at + 2) (omega arith) (standing-at ws (module′ ∷ []) (f .ready .whole) (at + 1) (class-in ws (f .ready .whole) at h kind)) (class-is ws (f .ready .whole) at h kind)
+  parts-count = class-arity ws (at + 1) (at + 2) (omega arith) (standing-at ws (module′ ∷ []) (f .ready .whole) (at + 1) (class-inside ws (f .ready .whole) at h kind)) (class-kind ws (f .ready .whole) at h kind)
 
   pub class-parts : 1 ≤ arityAt ws (at + 1)
   class-parts = omega (arith, parts-count)

@@ -18,12 +18,12 @@ use Rattle.grammar.specs.WellFormed.{Fits}
 use Rattle.rewriting.specs.Parts.{bareParameters, isMember, isDecoratedMember, hasPlainKey}
 use Rattle.rewriting.specs.Visit.{State, visit, visitOne}
 use Rattle.class_stack.specs.declared.ClassStack.{ClassStack}
-use Rattle.walk_laws.specs.Rows.{visitAt, here-add}
+use Rattle.walk_laws.specs.Rows.{visitAt, here-add, plain-after}
 use Rattle.walk_laws.specs.Written.{wordBy, written}
 use Rattle.walk_laws.specs.Roles.{is-kind, plain-36}
 use Rattle.walk_laws.specs.After.{keyAfter, memberAfter}
 use Rattle.walk_laws.specs.Kinds.{isElementKind, element-after}
-use Rattle.walk_laws.specs.Elements.{Marked, Keyed, Called, keyAt, parametersAt, parameters-nth, parameter-marked, method-called, member-keyed, marked-end, parameter-after, plain-after}
+use Rattle.walk_laws.specs.Elements.{Marked, Keyed, Called, keyAt, parametersAt, parameters-nth, parameter-marked, method-called, member-keyed, marked-end, parameter-after}
 use Rattle.walk_laws.specs.Members.{parametersWords, methodWords, bareWords, keyWords, bare-append, parameter-written}
 use Rattle.counter.specs.Contract.{aroundOf, stateOf, Counts}
 use Rattle.counter.specs.declared.Scope.{Scope}

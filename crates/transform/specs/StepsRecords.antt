@@ -1,7 +1,7 @@
 -- Laws for the walkers of records that are kept, of lists, of a module and of classes that aren't live. Assumes nothing.
 use mathlib.Core.Path.{_≡_, refl, ap, sym, subst, _∙_}
 use mathlib.Core.Bool.{true, false}
-use mathlib.Core.Option.{Option, none, some}
+use mathlib.Core.Option.{Option, none}
 use mathlib.Core.Logic.{_⊎_, inl, ⊎-elim}
 use mathlib.Core.List.{List, [], _∷_, _++_}
 use Prim.Native.Nat.{ℕ, suc, _+_, _-_, _*_, _<_, _≤_}
@@ -25,12 +25,12 @@ use Rattle.class_stack.specs.declared.ClassStack.{ClassStack}
 use Rattle.inspect.specs.Child.{optOf, opt-none}
 use Rattle.walk_laws.specs.Rows.{visitAt, fresh, here-add}
 use Rattle.walk_laws.specs.Written.{wordBy, written, written-tree, written-node}
-use Rattle.walk_laws.specs.Slots.{Standing, standing-at, RowFits, kids-row, row-first}
+use Rattle.walk_laws.specs.Slots.{Standing, standing-at, RowFits, kind-row, row-first}
 use Rattle.walk_laws.specs.Single.{Stays, keeps, one-stays}
-use Rattle.walk_laws.specs.Roles.{Sort, isMethod, isProperty, isAccessor, member-sort}
+use Rattle.walk_laws.specs.Roles.{role-4, role-20, Sort, isMethod, isProperty, isAccessor, member-sort}
 use Rattle.walk_laws.specs.Members.{member-written}
 use Rattle.walk_laws.specs.After.{after-plain, after-constructor, after-list, after-module, after-expression, after-dead}
-use Rattle.walk_laws.specs.Kinds.{role-4, role-20, class-one, class-row-one, class-kids}
+use Rattle.walk_laws.specs.Kinds.{class-one, class-row-one, class-kids}
 use Rattle.counter.specs.Contract.{aroundOf, stateOf}
 use Rattle.counter.specs.declared.Scope.{Scope}
 use Rattle.counter.specs.declared.Count.{Count}
@@ -283,10 +283,8 @@ module _ (ws : List ℕ) (at : ℕ) (a : Scope) (s : Count) (c : ClassStack) (h 
 
   module-row : RowFits ws (at + 1) (suc (labelAt ws at .payload)) (symbols ∷ (replicate (labelAt ws at .payload) ownStatement ++ []))
   module-row =
-      let e : arityAt ws at ≡ suc (labelAt ws at .payload) = omega (arith, module-arity) in
-      let b : slotsBelow (module-standing .slot) (labelAt ws at .kind) (labelAt ws at .payload) ≡ symbols ∷ (replicate (labelAt ws at .payload) ownStatement ++ []) =
-      ap (λ (k : ℕ). slotsBelow (module-standing .slot) k (labelAt ws at .payload)) kind ∙ module-slots (module-standing .slot) (labelAt ws at .payload) in
-      subst (λ (n : ℕ). RowFits ws (at + 1) n (symbols ∷ (replicate (labelAt ws at .payload) ownStatement ++ []))) e (subst (RowFits ws (at + 1) (arityAt ws at)) b (kids-row ws at module-standing))
+      let r = kind-row ws at 1 module-standing _ kind (module-slots (module-standing .slot) (labelAt ws at .payload)) in
+      subst (λ (n : ℕ). RowFits ws (at + 1) n (symbols ∷ (replicate (labelAt ws at .payload) ownStatement ++ []))) (omega (arith, r .0, module-arity)) (r .1)
 
   symbols-inside : at + 1 < length ws
   symbols-inside = row-first ws (at + 1) _ symbols _ module-row .0

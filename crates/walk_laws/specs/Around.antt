@@ -19,9 +19,9 @@ use Rattle.rewriting.specs.Visit.{Around, State, Result, memberIf, member, own,
 use Rattle.walk_laws.specs.Rows.{visitAt, one-after}
 use Rattle.walk_laws.specs.Slots.{Standing, standing-at}
 use Rattle.walk_laws.specs.Single.{T-true}
-use Rattle.walk_laws.specs.Roles.{role-kind}
+use Rattle.walk_laws.specs.Roles.{role-4, role-20, no-member}
 use Rattle.walk_laws.specs.Kinds.{after-rest}
-use Rattle.walk_laws.specs.Quiet.{quiet, Quiet, hasClass, quiet-below, quiet-member, no-member}
+use Rattle.walk_laws.specs.Quiet.{quiet, Quiet, hasClass, quiet-below, quiet-member}
 
 -- ---- one record
 
@@ -62,8 +62,8 @@ unfolding hasClass
 class-same a b l k s h = go (eqb (l .kind) 4) refl (eqb (l .kind) 20) refl h
   where
     go : (x : Bool) → eqb (l .kind) 4 ≡ x → (y : Bool) → eqb (l .kind) 20 ≡ y → (x || y) ≡ true → visitOne a l k s ≡ visitOne b l k s
-    go true e y f t = statement-same a b l k s (role-kind l 4 (eqb-true (l .kind) 4 e) ∙ (unfold roleOf lookup in refl))
-    go false e true f t = expression-same a b l k s (role-kind l 20 (eqb-true (l .kind) 20 f) ∙ (unfold roleOf lookup in refl))
+    go true e y f t = statement-same a b l k s (role-4 l (eqb-true (l .kind) 4 e))
+    go false e true f t = expression-same a b l k s (role-20 l (eqb-true (l .kind) 20 f))
     go false e false f t = absurd (false≢true t)
 
 -- ---- records

@@ -16,13 +16,13 @@ use Rattle.grammar.specs.WellFormed.{Allowed, Fits}
 use Rattle.grammar.specs.Rows.{allowed-row}
 use Rattle.rewriting.specs.Parts.{roleOf, tree, indexed, ofParameters, decorators, parametersOf, decoratorsOf, isMember, isDecoratedMember, isPlainKey, hasPlainKey}
 use Rattle.rewriting.specs.Visit.{Around, State, Result, Taken, classSymbol, plainName, nameIf, nameOf, prefix, array, memberCall, called₁, called₂, memberIf, member, since, visit, visitOne}
-use Rattle.walk_laws.specs.Rows.{visitAt, calls-add, one-calls, one-after}
+use Rattle.walk_laws.specs.Rows.{visitAt, calls-add, one-calls, one-after, plain-here}
 use Rattle.walk_laws.specs.Written.{wordBy, written, written-node, written-tree, written-append}
 use Rattle.walk_laws.specs.Slots.{standing-at}
 use Rattle.walk_laws.specs.Single.{Stays, expression-stays}
 use Rattle.walk_laws.specs.Roles.{Sort, isMethod, isProperty, isAccessor, member-sort, is-kind, kind-is, is-other, plain-37, bareBy, descriptorBy, member-one, decorated-member}
 use Rattle.walk_laws.specs.Quiet.{one-quiet, element-quiet}
-use Rattle.walk_laws.specs.Elements.{Called, keyAt, key-plain, decorators-nth, parameter-marked, method-called, member-keyed, plain-here, marked-decorators, called-parameters}
+use Rattle.walk_laws.specs.Elements.{Called, keyAt, key-plain, decorators-nth, parameter-marked, method-called, member-keyed, marked-decorators, called-parameters}
 use Rattle.walk_laws.specs.Members.{member-bare}
 
 -- the symbol of a class with this id and this default symbol

@@ -10,18 +10,18 @@ use Rattle.words.specs.Table.{lookup}
 use Rattle.words.specs.Word.{bit0, bit2, children, childTable}
 use Rattle.records.specs.Forest.{end, node, takeF, countF}
 use Rattle.records.specs.Label.{Label, Trees, arity}
-use Rattle.records.specs.Place.{recordsAt, labelAt, arityAt, kidsAt, endOf, end-add, record-one}
+use Rattle.records.specs.Place.{recordsAt, labelAt, arityAt, kidsAt, endOf, end-add}
 use Rattle.grammar.specs.Grammar.{Expression, module′, row, table, rowOf}
 use Rattle.grammar.specs.WellFormed.{Fits}
-use Rattle.rewriting.specs.Parts.{tree, roleOf, plain, statement, decorators, isEmpty, elementsOf, idOf, constructorDecorated, isDecorated, isLive, classKids}
+use Rattle.rewriting.specs.Parts.{tree, roleOf, statement, decorators, isEmpty, elementsOf, idOf, constructorDecorated, isDecorated, isLive, classKids}
 use Rattle.rewriting.specs.Visit.{Around, State, Result, liveClassIf, liveClass, classIf, own, since, work, inside, entering, visit, visitOne}
-use Rattle.walk_laws.specs.Rows.{visitAt, fresh, after-add, kids-visit, one-calls, plain-one}
+use Rattle.walk_laws.specs.Rows.{visitAt, fresh, after-add, kids-visit, plain-here, plain-calls}
 use Rattle.walk_laws.specs.ClassParts.{idSymbol, classParts, Without, IsId, class-elements, class-decorators, class-symbol}
-use Rattle.walk_laws.specs.Slots.{Standing, standing-at, fits-count, arity-slots}
+use Rattle.walk_laws.specs.Slots.{Standing, standing-at}
 use Rattle.walk_laws.specs.Default.{default-kept}
-use Rattle.walk_laws.specs.Roles.{role-kind}
-use Rattle.walk_laws.specs.Elements.{plain-here}
-use Rattle.walk_laws.specs.ClassPlaces.{heritageOf, bodyOf, idAt, first-place, first-kind, body-place, body-is, id-is, without-read, without-here, read-parts, heritageState, bodyState, here-parts, calls-parts, one-class, class-place, class-arity}
+use Rattle.walk_laws.specs.Roles.{role-4, plain-26}
+use Rattle.walk_laws.specs.Kinds.{kids-count, class-inside, class-kind, class-row-one, class-kids}
+use Rattle.walk_laws.specs.ClassPlaces.{heritageOf, bodyOf, idAt, first-place, first-kind, body-place, body-is, id-is, without-read, without-here, read-parts, heritageState, bodyState, here-parts, calls-parts, class-arity}
 use Rattle.walk_laws.specs.First.{element-count}
 use Rattle.walk_laws.specs.ClassPlan.{rk, scope, heritageAt, bodyAt, atHeritage, atBody, atEnd, ds, els, queue}
 
@@ -67,11 +67,11 @@ pub record ClassFacts (ws : List ℕ) (at n : ℕ) : Type 0 where
   pub calls : visitAt ws (at + 1) 1 (scope ws at) (fresh n) .calls ≡ queue ws at n
 
 module _ (ws : List ℕ) (whole : Fits (module′ ∷ []) (recordsAt ws 0)) (at : ℕ) (h : at < length ws) (kind : labelAt ws at .kind ≡ 4) where
-  pub class-in : at + 1 < length ws
-  class-in = class-place ws at (standing-at ws (module′ ∷ []) whole at h) kind .0
+  class-in : at + 1 < length ws
+  class-in = class-inside ws whole at h kind
 
-  pub class-is : labelAt ws (at + 1) .kind ≡ 26
-  class-is = class-place ws at (standing-at ws (module′ ∷ []) whole at h) kind .1
+  class-is : labelAt ws (at + 1) .kind ≡ 26
+  class-is = class-kind ws whole at h kind
 
   class-stands : Standing ws (at + 1)
   class-stands = standing-at ws (module′ ∷ []) whole (at + 1) class-in
@@ -168,9 +168,6 @@ module _ (ws : List ℕ) (whole : Fits (module′ ∷ []) (recordsAt ws 0)) (at 
     unfolding queue
     queue-is = ap (λ (r : Result). r .calls) (kids-visit ws (scope ws at) (bodyAt ws at) (atBody ws at n))
 
-    plain-26 : roleOf (labelAt ws (at + 1)) ≡ plain
-    plain-26 = role-kind (labelAt ws (at + 1)) 26 class-is ∙ (unfold roleOf lookup in refl)
-
     kids-here : visit (scope ws at) (kidsAt ws (at + 1)) (fresh n) .here ≡
         classParts (labelAt ws (at + 2)) (visit (scope ws at) (kidsAt ws (at + 2)) (fresh n) .here) (idAt ws (at + 1) (at + 2)) (heritage ws at n)
         (labelAt ws (bodyAt ws at)) (visit (scope ws at) (kidsAt ws (bodyAt ws at)) (atBody ws at n) .here)
@@ -182,14 +179,11 @@ module _ (ws : List ℕ) (whole : Fits (module′ ∷ []) (recordsAt ws 0)) (at 
     kids-calls = calls-parts ws (at + 1) (at + 2) next class-stands class-is (scope ws at) (fresh n)
 
     class-here : visitAt ws (at + 1) 1 (scope ws at) (fresh n) .here ≡ tree (classLabel ws at n) (parts ws at n)
-    class-here = plain-here ws (scope ws at) (at + 1) (fresh n) class-in plain-26 ∙ ap (tree (labelAt ws (at + 1))) (kids-here ∙ cc (ds-are, els-are))
+    class-here = plain-here ws (scope ws at) (at + 1) (fresh n) class-in (plain-26 (labelAt ws (at + 1)) class-is) ∙ ap (tree (labelAt ws (at + 1))) (kids-here ∙ cc (ds-are, els-are))
 
     class-calls : visitAt ws (at + 1) 1 (scope ws at) (fresh n) .calls ≡ queue ws at n
     class-calls =
-        one-calls ws (scope ws at) (at + 1) (fresh n) class-in
-        ∙ ap (λ (r : Result). r .calls) (plain-one (scope ws at) (labelAt ws (at + 1)) (kidsAt ws (at + 1)) (fresh n) plain-26)
-        ∙ kids-calls
-        ∙ sym queue-is
+        plain-calls ws (scope ws at) (at + 1) (fresh n) class-in (plain-26 (labelAt ws (at + 1)) class-is) ∙ kids-calls ∙ sym queue-is
 
     -- its elements are counted
     elements-are : countF (els ws at n) ≡ arityAt ws (bodyAt ws at)
@@ -198,9 +192,8 @@ module _ (ws : List ℕ) (whole : Fits (module′ ∷ []) (recordsAt ws 0)) (at 
     -- it has none if it isn't decorated
     undecorated-bare : isDecorated (rk ws at) ≡ false → (labelAt ws (at + 2) .payload ≡ 0) × (ds ws at n ≡ end)
     undecorated-bare e =
-        let t : Standing ws (at + 2) = standing-at ws (module′ ∷ []) whole (at + 2) (first-place ws (at + 1) (at + 2) next class-stands class-is) in
         let none : kidsAt ws (at + 2) ≡ end = sym own-decorators ∙ is-empty (decorators (rk ws at)) (or-left (isEmpty (decorators (rk ws at))) (constructorDecorated (elementsOf (rk ws at))) (unfold isDecorated in e)) in
-        let count : countF (kidsAt ws (at + 2)) ≡ arityAt ws (at + 2) = fits-count _ (kidsAt ws (at + 2)) (t .kids) ∙ sym (arity-slots ws (at + 2) t) in
+        let count : countF (kidsAt ws (at + 2)) ≡ arityAt ws (at + 2) = kids-count ws whole (at + 2) (first-place ws (at + 1) (at + 2) next class-stands class-is) in
         let zero : countF (kidsAt ws (at + 2)) ≡ 0 = ap countF none ∙ (unfold countF in refl) in
         (omega (arith, decorators-counted), ds-are ∙ ap (λ (f : Trees). visit (scope ws at) f (fresh n) .here) none ∙ (unfold visit in refl))
       where
@@ -254,11 +247,10 @@ module _ (ws : List ℕ) (whole : Fits (module′ ∷ []) (recordsAt ws 0)) (at 
   unfolding visitAt scope atEnd
   statement-here =
       let n : ℕ = s .next in
-      let one : kidsAt ws at ≡ takeF 1 (recordsAt ws (at + 1)) = unfold kidsAt in ap (λ (k : ℕ). takeF k (recordsAt ws (at + 1))) (one-class ws at (standing-at ws (module′ ∷ []) whole at h) kind) in
-      let role : roleOf (labelAt ws at) ≡ statement = role-kind (labelAt ws at) 4 kind ∙ (unfold roleOf lookup in refl) in
-      let k : classKids (takeF 1 (recordsAt ws (at + 1))) ≡ rk ws at = ap classKids (record-one ws (at + 1) (class-in ws whole at h kind)) ∙ (unfold classKids rk in refl) in
+      let one : kidsAt ws at ≡ takeF 1 (recordsAt ws (at + 1)) = class-row-one ws whole at h kind in
+      let k : classKids (takeF 1 (recordsAt ws (at + 1))) ≡ rk ws at = ap classKids (sym one) ∙ (unfold rk in class-kids ws whole at h kind) in
       let f : ClassFacts ws at n = class-facts ws whole at h kind n in
       ap (λ (g : Trees). visitOne around (labelAt ws at) g s .here) one
-      ∙ live-one around (labelAt ws at) (takeF 1 (recordsAt ws (at + 1))) s (rk ws at) role live k
+      ∙ live-one around (labelAt ws at) (takeF 1 (recordsAt ws (at + 1))) s (rk ws at) (role-4 (labelAt ws at) kind) live k
       ∙ live-tree (rk ws at) (labelAt ws at) (classLabel ws at n) (parts ws at n) _ _ (atEnd ws at n) (s .default) (f .here)
       ∙ ap (λ (q : Trees). liveClassIf (isDecorated (rk ws at)) (rk ws at) (labelAt ws at) (classLabel ws at n) (parts ws at n) q (atEnd ws at n) (s .default) .here) (f .calls)

@@ -3,7 +3,7 @@ use mathlib.Core.Path.{_≡_, refl, ap, _∙_}
 use mathlib.Core.Bool.{Bool, true, false, cond}
 use mathlib.Core.Option.{Option, none, some}
 use mathlib.Core.List.{List, _∷_, _++_}
-use Prim.Native.Nat.{ℕ, suc, _+_}
+use Prim.Native.Nat.{ℕ, suc}
 use Rattle.records.specs.Forest.{end, node, takeF, dropF, appendF, countF}
 use Rattle.records.specs.Label.{Label, Trees, _∶_, repay, is}
 use Rattle.rewriting.specs.Parts.{tree, recount, kidsOf, decorators, undecorate, elementsOf, withElements, symbolIf, idOf, bareFirst, bareMethod, isConstructor}

@@ -1,6 +1,5 @@
 -- The children of a class by place, as read and as visited. Assumes nothing.
 use mathlib.Core.Path.{_≡_, refl, ap, sym, subst, _∙_}
-use mathlib.Core.Bool.{false}
 use mathlib.Core.Option.{Option, none, some}
 use mathlib.Core.List.{List, [], _∷_, _++_, append-nil}
 use Prim.Native.Nat.{ℕ, zero, suc, _+_, _<_}
@@ -8,23 +7,22 @@ use native.Mathlib.Nat.{zero-add, suc-add}
 use native.Mathlib.Omega.{arith}
 use lib.Dec.{T}
 use lib.ListN.{length, replicate, length-append, length-replicate}
-use borrow.Author.Tests.{ne-eqb}
 use Rattle.words.specs.Table.{lookup}
 use Rattle.words.specs.Word.{bit0, bit2, children, childTable}
 use Rattle.records.specs.Forest.{end, node, takeF, dropF, appendF, takeF-add, takeF-end}
-use Rattle.records.specs.Label.{Label, Trees, is, arity}
+use Rattle.records.specs.Label.{Label, Trees, arity}
 use Rattle.records.specs.Place.{recordsAt, labelAt, arityAt, kidsAt, endOf, end-drop, record-one}
-use Rattle.grammar.specs.Grammar.{Slot, slot, Expression, Decorators, expression, id, body, classUnder, row, table, rowOf, slots, slotsBelow}
+use Rattle.grammar.specs.Grammar.{Slot, slot, Expression, Decorators, expression, id, body, row, table, rowOf, slots, slotsBelow}
 use Rattle.grammar.specs.WellFormed.{Allowed, Fits}
 use Rattle.grammar.specs.Children.{allowed-sole}
-use Rattle.grammar.specs.Rows.{soleKind, allowed-row}
-use Rattle.rewriting.specs.Parts.{tree, roleOf, plain}
+use Rattle.grammar.specs.Rows.{soleKind}
+use Rattle.rewriting.specs.Parts.{tree}
 use Rattle.rewriting.specs.Visit.{Around, State, Result, visit}
-use Rattle.walk_laws.specs.Rows.{visitAt, here-add, calls-add, one-calls, kids-visit, plain-one}
-use Rattle.walk_laws.specs.Slots.{Standing, RowFits, kids-row, arity-slots, row-first}
+use Rattle.walk_laws.specs.Rows.{visitAt, here-add, calls-add, kids-visit, plain-here, plain-calls}
+use Rattle.walk_laws.specs.Slots.{Standing, RowFits, kind-row, row-first}
 use Rattle.walk_laws.specs.Single.{Stays, expression-stays}
-use Rattle.walk_laws.specs.Roles.{role-kind, plain-28}
-use Rattle.walk_laws.specs.Elements.{decorators-kind, plain-here}
+use Rattle.walk_laws.specs.Roles.{plain-27, plain-28, plain-29}
+use Rattle.walk_laws.specs.Elements.{decorators-kind, other-kind}
 use Rattle.walk_laws.specs.Quiet.{quiet, Quiet, quiet-replicate, row-quiet}
 use Rattle.walk_laws.specs.ClassParts.{idTree, classParts, Without, IsId}
 
@@ -93,7 +91,7 @@ module _ (ws : List ℕ) (at : ℕ) where
   ids-here (suc zero) h f around s =
       let g = row-first ws at 0 id [] f in
       let k : labelAt ws at .kind ≡ 27 = id-kind (labelAt ws at) (g .1) in
-      plain-here ws around at s (g .0) (role-kind (labelAt ws at) 27 k ∙ (unfold roleOf lookup in refl))
+      plain-here ws around at s (g .0) (plain-27 (labelAt ws at) k)
       ∙ ap (λ (x : Trees). tree (labelAt ws at) (visit around x s .here)) (leaf-27 ws at k)
       ∙ (unfold visit in refl)
   ids-here (suc (suc k)) h f around s = absurd (omega arith)
@@ -101,17 +99,13 @@ module _ (ws : List ℕ) (at : ℕ) where
 -- ---- the heritage: at most one expression
 
 -- it is of no kind that is no expression
-other-kind : (l : Label) (k : ℕ) → Allowed expression l → (rowOf k .category ≡ Expression → ⊥) → is k l ≡ false
-unfolding is
-other-kind l k a n = ne-eqb (l .kind) k λ e. n (ap (λ (m : ℕ). rowOf m .category) (sym e) ∙ allowed-row expression (l .kind) (l .payload) (a .grammar) .0)
-
 module _ (ws : List ℕ) (at n : ℕ) (out : rowOf n .category ≡ Expression → ⊥) where
   heritage-read : (k : ℕ) → k < 2 → RowFits ws at k (replicate k expression) → Without n (takeF k (recordsAt ws at))
   unfolding takeF Without
   heritage-read zero h f = tt
   heritage-read (suc zero) h f =
       let g = row-first ws at 0 expression [] f in
-      subst (Without n) (sym (record-one ws at (g .0))) (other-kind (labelAt ws at) n (g .1) out, tt)
+      subst (Without n) (sym (record-one ws at (g .0))) (other-kind expression (labelAt ws at) n (g .1) out, tt)
   heritage-read (suc (suc k)) h f = absurd (omega arith)
 
   heritage-here : (k : ℕ) → k < 2 → RowFits ws at k (replicate k expression) → (around : Around) (s : State) → Without n (visitAt ws at k around s .here)
@@ -120,7 +114,7 @@ module _ (ws : List ℕ) (at n : ℕ) (out : rowOf n .category ≡ Expression �
   heritage-here (suc zero) h f around s =
       let g = row-first ws at 0 expression [] f in
       let t : Stays (labelAt ws at) (visitAt ws at 1 around s .here) = expression-stays ws at expression around s (g .0) refl (g .1) in
-      subst (Without n) (sym (t .whole)) (other-kind (labelAt ws at) n (g .1) out, tt)
+      subst (Without n) (sym (t .whole)) (other-kind expression (labelAt ws at) n (g .1) out, tt)
   heritage-here (suc (suc k)) h f around s = absurd (omega arith)
 
 -- ---- the children of the class at c, from the place f on
@@ -141,16 +135,15 @@ class-row ws c f fe t e =
     let p : ℕ = labelAt ws c .payload in
     let qs : List Slot = slot Decorators 0 ∷ replicate (bit0 p) id in
     let rs : List Slot = replicate (bit2 p) expression ++ (body ∷ []) in
-    let b : slotsBelow (t .slot) (labelAt ws c .kind) p ≡ qs ++ rs = ap (λ (k : ℕ). slotsBelow (t .slot) k p) e ∙ below-26 (t .slot) p in
+    let w = kind-row ws c 26 t (qs ++ rs) e (below-26 (t .slot) p) in
     let lq : length qs ≡ 1 + bit0 p = omega (arith, length-replicate (bit0 p) id) in
     let lr : length rs ≡ bit2 p + 1 = omega (arith, length-append (replicate (bit2 p) expression) (body ∷ []), length-replicate (bit2 p) expression) in
-    let count : arityAt ws c ≡ 1 + bit0 p + (bit2 p + 1) = arity-slots ws c t ∙ ap length b ∙ length-append qs rs ∙ cc (lq, lr) in
+    let n : length (qs ++ rs) ≡ 1 + bit0 p + (bit2 p + 1) = length-append qs rs ∙ cc (lq, lr) in
     let r : RowFits ws f (1 + bit0 p + (bit2 p + 1)) (qs ++ rs) =
-    subst (λ (m : ℕ). RowFits ws m (1 + bit0 p + (bit2 p + 1)) (qs ++ rs)) fe (
-    subst (λ (m : ℕ). RowFits ws (c + 1) m (qs ++ rs)) count (subst (RowFits ws (c + 1) (arityAt ws c)) b (kids-row ws c t))) in
+    subst (λ (m : ℕ). RowFits ws m (1 + bit0 p + (bit2 p + 1)) (qs ++ rs)) fe (subst (λ (m : ℕ). RowFits ws (c + 1) m (qs ++ rs)) n (w .1)) in
     let s = row-split ws f (1 + bit0 p) (bit2 p + 1) qs rs lq r in
     let u = row-split ws (endOf ws f (1 + bit0 p)) (bit2 p) 1 (replicate (bit2 p) expression) (body ∷ []) (length-replicate (bit2 p) expression) (s .1) in
-    record { count = count; head = s .0; heritage = u .0; last = u .1 }
+    record { count = w .0 ∙ n; head = s .0; heritage = u .0; last = u .1 }
 
 body-kind : (l : Label) → Allowed body l → l .kind ≡ 29
 unfolding soleKind lookup
@@ -265,9 +258,8 @@ module _ (ws : List ℕ) (c f : ℕ) (fe : c + 1 ≡ f) (t : Standing ws c) (kin
         let marked : visitAt ws f 1 around s .here ≡ node (labelAt ws f) (visit around (kidsAt ws f) s .here) end = plain-here ws around f s first-place (plain-28 (labelAt ws f) first-kind) in
         let two : visitAt ws f (1 + bit0 p) around s .here ≡ appendF (node (labelAt ws f) (visit around (kidsAt ws f) s .here) end) (idTree (idAt ws c f)) =
         here-add ws around f 1 (bit0 p) s ∙ cc (named, marked) in
-        let plain-29 : roleOf (labelAt ws b) ≡ plain = role-kind (labelAt ws b) 29 body-is ∙ (unfold roleOf lookup in refl) in
         let others : visitAt ws h (bit2 p + 1) around heritageState .here ≡ appendF (visitAt ws h (bit2 p) around heritageState .here) (node (labelAt ws b) (visit around (kidsAt ws b) bodyState .here) end) =
-        here-add ws around h (bit2 p) 1 heritageState ∙ ap (appendF (visitAt ws h (bit2 p) around heritageState .here)) (plain-here ws around b bodyState body-place plain-29) in
+        here-add ws around h (bit2 p) 1 heritageState ∙ ap (appendF (visitAt ws h (bit2 p) around heritageState .here)) (plain-here ws around b bodyState body-place (plain-29 (labelAt ws b) body-is)) in
         ap (λ (r : Result). r .here) row-whole
         ∙ here-add ws around f (1 + bit0 p) (bit2 p + 1) s
         ∙ cc (two, others)
@@ -284,36 +276,9 @@ module _ (ws : List ℕ) (c f : ℕ) (fe : c + 1 ≡ f) (t : Standing ws c) (kin
         row-quiet ws f (1 + bit0 p) (slot Decorators 0 ∷ replicate (bit0 p) id) around s (class-row ws c f fe t kind .head) (tt, replicate-quiet (bit0 p) id tt) in
         let inherited : visitAt ws h (bit2 p) around heritageState .calls ≡ end =
         row-quiet ws h (bit2 p) (replicate (bit2 p) expression) around heritageState heritage-fits (replicate-quiet (bit2 p) expression tt) in
-        let plain-29 : roleOf (labelAt ws b) ≡ plain = role-kind (labelAt ws b) 29 body-is ∙ (unfold roleOf lookup in refl) in
-        let own : visitAt ws b 1 around bodyState .calls ≡ visit around (kidsAt ws b) bodyState .calls =
-        one-calls ws around b bodyState body-place ∙ ap (λ (r : Result). r .calls) (plain-one around (labelAt ws b) (kidsAt ws b) bodyState plain-29) in
         ap (λ (r : Result). r .calls) row-whole
         ∙ calls-add ws around f (1 + bit0 p) (bit2 p + 1) s
         ∙ ap (λ (g : Trees). appendF g (visitAt ws h (bit2 p + 1) around heritageState .calls)) two
         ∙ calls-add ws around h (bit2 p) 1 heritageState
         ∙ ap (λ (g : Trees). appendF g (visitAt ws b 1 around bodyState .calls)) inherited
-        ∙ own
-
--- ---- the class of the statement at `at`
-
-below-4 : (q : Slot) (p : ℕ) → slotsBelow q 4 p ≡ classUnder p ∷ []
-unfolding slotsBelow rowOf lookup table row slots
-below-4 q p = refl
-
-class-kind : (p : ℕ) (l : Label) → Allowed (classUnder p) l → l .kind ≡ 26
-unfolding soleKind lookup
-class-kind p l a = allowed-sole (classUnder p) l a tt
-
-module _ (ws : List ℕ) (at : ℕ) (t : Standing ws at) (kind : labelAt ws at .kind ≡ 4) where
-  below : slotsBelow (t .slot) (labelAt ws at .kind) (labelAt ws at .payload) ≡ classUnder (labelAt ws at .payload) ∷ []
-  below = ap (λ (k : ℕ). slotsBelow (t .slot) k (labelAt ws at .payload)) kind ∙ below-4 (t .slot) (labelAt ws at .payload)
-
-  pub one-class : arityAt ws at ≡ 1
-  one-class = arity-slots ws at t ∙ ap length below
-
-  pub class-place : (at + 1 < length ws) × (labelAt ws (at + 1) .kind ≡ 26)
-  class-place =
-      let p : ℕ = labelAt ws at .payload in
-      let r : RowFits ws (at + 1) 1 (classUnder p ∷ []) = subst (λ (n : ℕ). RowFits ws (at + 1) n (classUnder p ∷ [])) one-class (subst (RowFits ws (at + 1) (arityAt ws at)) below (kids-row ws at t)) in
-      let g = row-first ws (at + 1) 0 (classUnder p) [] r in
-      (g .0, class-kind p (labelAt ws (at + 1)) (g .1))
+        ∙ plain-calls ws around b bodyState body-place (plain-29 (labelAt ws b) body-is)

@@ -1,10 +1,10 @@
 -- The children of a member, a constructor and a parameter, as read and as visited: decorators, key, parameters, and what stands behind. Assumes nothing.
-use mathlib.Core.Path.{_≡_, refl, ap, sym, subst, _∙_}
+use mathlib.Core.Path.{_≡_, refl, ap, sym, _∙_}
 use mathlib.Core.Bool.{true, false}
 use mathlib.Core.List.{List, [], _∷_, _++_, append-nil}
 use Prim.Native.Nat.{ℕ, suc, _+_, _-_, _<_}
 use native.Mathlib.Omega.{arith}
-use lib.ListN.{length, replicate, length-replicate}
+use lib.ListN.{length, replicate}
 use borrow.Author.Tests.{ne-eqb}
 use Rattle.words.specs.Table.{lookup}
 use Rattle.words.specs.Word.{bit1, bit2}
@@ -15,10 +15,10 @@ use Rattle.grammar.specs.Grammar.{Slot, slot, Decorators, Parameters, Parameter
 use Rattle.grammar.specs.WellFormed.{Allowed, Fits}
 use Rattle.grammar.specs.Children.{allowed-sole}
 use Rattle.grammar.specs.Rows.{soleKind, allowed-row}
-use Rattle.rewriting.specs.Parts.{roleOf, plain, tree, kidsOf, changeKids, decorators, undecorate, parametersOf, bareParameters, bareMethod, isMember, isPlainKey, firstIsPlain, hasPlainKey}
+use Rattle.rewriting.specs.Parts.{tree, kidsOf, changeKids, decorators, undecorate, parametersOf, bareParameters, bareMethod, isMember, isPlainKey, firstIsPlain, hasPlainKey}
 use Rattle.rewriting.specs.Visit.{Around, State, Result, visit}
-use Rattle.walk_laws.specs.Rows.{visitAt, one-here, one-after, here-add, after-add, kids-visit, plain-one}
-use Rattle.walk_laws.specs.Slots.{Standing, standing-at, RowFits, kids-row, arity-slots, row-first}
+use Rattle.walk_laws.specs.Rows.{visitAt, here-add, after-add, kids-visit, plain-here, plain-after}
+use Rattle.walk_laws.specs.Slots.{Standing, standing-at, RowFits, kind-row, same-row, row-first}
 use Rattle.walk_laws.specs.Single.{Stays, expression-stays, row-nth}
 use Rattle.walk_laws.specs.Roles.{Sort, isMethod, isProperty, isAccessor, member-sort, is-kind, is-other, plain-28, plain-36, plain-37}
 
@@ -64,13 +64,15 @@ parameter-kind : (x : ℕ) (l : Label) → Allowed (slot Parameter x) l → l .k
 unfolding soleKind lookup
 parameter-kind x l a = allowed-sole (slot Parameter x) l a tt
 
--- a key is no 36
-pub key-other : (l : Label) → Allowed key l → is 36 l ≡ false
+-- what may stand in a slot is of no kind of another category
+pub other-kind : (q : Slot) (l : Label) (k : ℕ) → Allowed q l → (rowOf k .category ≡ q .category → ⊥) → is k l ≡ false
 unfolding is
-key-other l a = ne-eqb (l .kind) 36 λ e.
-    let c : rowOf 36 .category ≡ 4 = ap (λ (k : ℕ). rowOf k .category) (sym e) ∙ allowed-row key (l .kind) (l .payload) (a .grammar) .0 in
-    let n : rowOf 36 .category ≡ 10 = unfold rowOf lookup table row in refl in
-    omega (arith, c, n)
+other-kind q l k a n = ne-eqb (l .kind) k λ e. n (ap (λ (m : ℕ). rowOf m .category) (sym e) ∙ allowed-row q (l .kind) (l .payload) (a .grammar) .0)
+
+-- a key is no 36
+key-other : (l : Label) → Allowed key l → is 36 l ≡ false
+unfolding rowOf lookup table row
+key-other l a = other-kind key l 36 a λ e. omega arith
 
 -- ---- as read
 
@@ -102,29 +104,26 @@ pub record Called (ws : List ℕ) (at : ℕ) : Type 0 where
   pub count : arityAt ws at - 2 ≡ 1 + (arityAt ws at - 3)
 
 module _ (ws : List ℕ) (at : ℕ) where
-  row-of : (rs : List Slot) → RowFits ws (at + 1) (arityAt ws at) rs → arityAt ws at ≡ length rs → RowFits ws (at + 1) (length rs) rs
-  row-of rs f e = subst (λ (n : ℕ). RowFits ws (at + 1) n rs) e f
-
-  marked : (x : ℕ) (rs : List Slot) → RowFits ws (at + 1) (arityAt ws at) (slot Decorators x ∷ rs) → arityAt ws at ≡ length (slot Decorators x ∷ rs) → Marked ws at
-  marked x rs f e =
-      let g = row-first ws (at + 1) (length rs) (slot Decorators x) rs (row-of (slot Decorators x ∷ rs) f e) in
+  marked : (x : ℕ) (rs : List Slot) → arityAt ws at ≡ length (slot Decorators x ∷ rs) → RowFits ws (at + 1) (length (slot Decorators x ∷ rs)) (slot Decorators x ∷ rs) → Marked ws at
+  marked x rs e f =
+      let g = row-first ws (at + 1) (length rs) (slot Decorators x) rs f in
       record { place = g .0; kind = decorators-kind x (labelAt ws (at + 1)) (g .1); count = omega arith }
 
-  keyed : (x : ℕ) (rs : List Slot) → RowFits ws (at + 1) (arityAt ws at) (slot Decorators x ∷ key ∷ rs) → arityAt ws at ≡ length (slot Decorators x ∷ key ∷ rs) → Keyed ws at
+  keyed : (x : ℕ) (rs : List Slot) → arityAt ws at ≡ length (slot Decorators x ∷ key ∷ rs) → RowFits ws (at + 1) (length (slot Decorators x ∷ key ∷ rs)) (slot Decorators x ∷ key ∷ rs) → Keyed ws at
   unfolding keyAt
-  keyed x rs f e =
-      let g = row-first ws (at + 1) (suc (length rs)) (slot Decorators x) (key ∷ rs) (row-of (slot Decorators x ∷ key ∷ rs) f e) in
+  keyed x rs e f =
+      let g = row-first ws (at + 1) (suc (length rs)) (slot Decorators x) (key ∷ rs) f in
       let i = row-first ws (endOf ws (at + 1) 1) (length rs) key rs (g .2) in
-      record { marked = marked x (key ∷ rs) f e; place = i .0; slot = i .1; count = omega arith }
+      record { marked = marked x (key ∷ rs) e f; place = i .0; slot = i .1; count = omega arith }
 
-  called : (x : ℕ) (rs : List Slot) → RowFits ws (at + 1) (arityAt ws at) (slot Decorators x ∷ key ∷ methodParameters ∷ rs) →
-      arityAt ws at ≡ length (slot Decorators x ∷ key ∷ methodParameters ∷ rs) → Called ws at
+  called : (x : ℕ) (rs : List Slot) → arityAt ws at ≡ length (slot Decorators x ∷ key ∷ methodParameters ∷ rs) →
+      RowFits ws (at + 1) (length (slot Decorators x ∷ key ∷ methodParameters ∷ rs)) (slot Decorators x ∷ key ∷ methodParameters ∷ rs) → Called ws at
   unfolding keyAt parametersAt
-  called x rs f e =
-      let g = row-first ws (at + 1) (suc (suc (length rs))) (slot Decorators x) (key ∷ methodParameters ∷ rs) (row-of (slot Decorators x ∷ key ∷ methodParameters ∷ rs) f e) in
+  called x rs e f =
+      let g = row-first ws (at + 1) (suc (suc (length rs))) (slot Decorators x) (key ∷ methodParameters ∷ rs) f in
       let i = row-first ws (endOf ws (at + 1) 1) (suc (length rs)) key (methodParameters ∷ rs) (g .2) in
       let j = row-first ws (endOf ws (endOf ws (at + 1) 1) 1) (length rs) methodParameters rs (i .2) in
-      record { keyed = keyed x (methodParameters ∷ rs) f e; place = j .0; kind = parameters-kind 0 (labelAt ws (endOf ws (endOf ws (at + 1) 1) 1)) (j .1); count = omega arith }
+      record { keyed = keyed x (methodParameters ∷ rs) e f; place = j .0; kind = parameters-kind 0 (labelAt ws (endOf ws (endOf ws (at + 1) 1) 1)) (j .1); count = omega arith }
 
   -- where the record ends
   module _ (h : at < length ws) where
@@ -135,47 +134,33 @@ module _ (ws : List ℕ) (at : ℕ) where
     here : Standing ws at
     here = standing-at ws (module′ ∷ []) whole at h
 
-    slots-kind : (k : ℕ) → labelAt ws at .kind ≡ k → slotsBelow (here .slot) (labelAt ws at .kind) (labelAt ws at .payload) ≡ slotsBelow (here .slot) k (labelAt ws at .payload)
-    slots-kind k e = ap (λ (n : ℕ). slotsBelow (here .slot) n (labelAt ws at .payload)) e
-
-    row-kind : (rs : List Slot) → slotsBelow (here .slot) (labelAt ws at .kind) (labelAt ws at .payload) ≡ rs → RowFits ws (at + 1) (arityAt ws at) rs × (arityAt ws at ≡ length rs)
-    row-kind rs e = (subst (RowFits ws (at + 1) (arityAt ws at)) e (kids-row ws at here), arity-slots ws at here ∙ ap length e)
-
-    -- the j-th child of a record whose children stand in one slot each
-    nth : (j : ℕ) (q : Slot) → slotsBelow (here .slot) (labelAt ws at .kind) (labelAt ws at .payload) ≡ replicate (labelAt ws at .payload) q → j < arityAt ws at →
-        (endOf ws (at + 1) j < length ws) × Allowed q (labelAt ws (endOf ws (at + 1) j))
-    nth j q e b =
-        let r = row-kind _ e in
-        let n : arityAt ws at ≡ labelAt ws at .payload = r .1 ∙ length-replicate (labelAt ws at .payload) q in
-        row-nth ws (at + 1) (arityAt ws at) j q (subst (λ (m : ℕ). RowFits ws (at + 1) (arityAt ws at) (replicate m q)) (sym n) (r .0)) b
-
-    -- of a 28, a 29 and a 36
+    -- the j-th child of a 28 and of a 36
     pub decorators-nth : (j : ℕ) → labelAt ws at .kind ≡ 28 → j < arityAt ws at → (endOf ws (at + 1) j < length ws) × Allowed expression (labelAt ws (endOf ws (at + 1) j))
-    decorators-nth j e = nth j expression (slots-kind 28 e ∙ below-28 (here .slot) (labelAt ws at .payload))
+    decorators-nth j e = row-nth ws (at + 1) (arityAt ws at) j expression (same-row ws at 28 here expression e (below-28 (here .slot) (labelAt ws at .payload)))
 
     pub parameters-nth : (j : ℕ) → labelAt ws at .kind ≡ 36 → j < arityAt ws at → (endOf ws (at + 1) j < length ws) × (labelAt ws (endOf ws (at + 1) j) .kind ≡ 37)
     parameters-nth j e b =
         let x : ℕ = here .slot .context in
-        let g = nth j (parameterOf x) (slots-kind 36 e ∙ below-36 (here .slot) (labelAt ws at .payload)) b in
+        let g = row-nth ws (at + 1) (arityAt ws at) j (parameterOf x) (same-row ws at 36 here (parameterOf x) e (below-36 (here .slot) (labelAt ws at .payload))) b in
         (g .0, parameter-kind x (labelAt ws (endOf ws (at + 1) j)) (g .1))
 
     pub parameter-marked : labelAt ws at .kind ≡ 37 → Marked ws at
     parameter-marked e =
-        let r = row-kind _ (slots-kind 37 e ∙ below-37 (here .slot) (labelAt ws at .payload)) in
-        marked _ _ (r .0) (r .1)
+        let r = kind-row ws at 37 here _ e (below-37 (here .slot) (labelAt ws at .payload)) in
+        marked (here .slot .context) (replicate (labelAt ws at .payload) expression ++ []) (r .0) (r .1)
 
     pub method-called : labelAt ws at .kind ≡ 30 → Called ws at
     method-called e =
-        let r = row-kind _ (slots-kind 30 e ∙ below-30 (here .slot) (labelAt ws at .payload)) in
-        called _ _ (r .0) (r .1)
+        let r = kind-row ws at 30 here _ e (below-30 (here .slot) (labelAt ws at .payload)) in
+        called (bit1 (labelAt ws at .payload)) (replicate (bit2 (labelAt ws at .payload)) code ++ []) (r .0) (r .1)
 
     pub member-keyed : isMember (labelAt ws at) ≡ true → Keyed ws at
     member-keyed m = go (member-sort (labelAt ws at) m)
       where
         go : Sort (labelAt ws at) → Keyed ws at
         go (isMethod e r) = method-called e .keyed
-        go (isProperty e r) = let r = row-kind _ (slots-kind 31 e ∙ below-31 (here .slot) (labelAt ws at .payload)) in keyed _ _ (r .0) (r .1)
-        go (isAccessor e r) = let r = row-kind _ (slots-kind 32 e ∙ below-32 (here .slot) (labelAt ws at .payload)) in keyed _ _ (r .0) (r .1)
+        go (isProperty e r) = let r = kind-row ws at 31 here _ e (below-31 (here .slot) (labelAt ws at .payload)) in keyed 0 (replicate (bit1 (labelAt ws at .payload)) expression ++ []) (r .0) (r .1)
+        go (isAccessor e r) = let r = kind-row ws at 32 here _ e (below-32 (here .slot) (labelAt ws at .payload)) in keyed 0 [] (r .0) (r .1)
 
 -- does the key give a name as it stands
 pub key-plain : (ws : List ℕ) (at : ℕ) → Keyed ws at → hasPlainKey (kidsAt ws at) ≡ isPlainKey (labelAt ws (keyAt ws at))
@@ -223,22 +208,13 @@ module _ (ws : List ℕ) (around : Around) where
       visitAt ws at (1 + k) around s .here ≡ node l x (visitAt ws (endOf ws at 1) k around (visitAt ws at 1 around s .after) .here)
   here-first at k s l x e = here-add ws around at 1 k s ∙ ap (λ (f : Trees). appendF f (visitAt ws (endOf ws at 1) k around (visitAt ws at 1 around s .after) .here)) e ∙ (unfold tree appendF in refl)
 
-  pub plain-here : (at : ℕ) (s : State) → at < length ws → roleOf (labelAt ws at) ≡ plain →
-      visitAt ws at 1 around s .here ≡ tree (labelAt ws at) (visit around (kidsAt ws at) s .here)
-  plain-here at s h e = one-here ws around at s h ∙ ap (λ (r : Result). r .here) (plain-one around (labelAt ws at) (kidsAt ws at) s e)
-
-  pub plain-after : (at : ℕ) (s : State) → at < length ws → roleOf (labelAt ws at) ≡ plain →
-      visitAt ws at 1 around s .after ≡ visitAt ws (at + 1) (arityAt ws at) around s .after
-  plain-after at s h e =
-      one-after ws around at s h ∙ ap (λ (r : Result). r .after) (plain-one around (labelAt ws at) (kidsAt ws at) s e) ∙ ap (λ (r : Result). r .after) (sym (kids-visit ws around at s))
-
   module _ (at : ℕ) (s : State) where
     module _ (m : Marked ws at) where
       -- the states behind the 28 and behind a parameter
       pub parameter-after : at < length ws → labelAt ws at .kind ≡ 37 →
           visitAt ws at 1 around s .after ≡ visitAt ws (endOf ws (at + 1) 1) (arityAt ws at - 1) around (visitAt ws (at + 1) 1 around s .after) .after
       parameter-after h e =
-          plain-after at s h (plain-37 _ e)
+          plain-after ws around at s h (plain-37 _ e)
           ∙ ap (λ (n : ℕ). visitAt ws (at + 1) n around s .after) (m .count)
           ∙ after-add ws around (at + 1) 1 (arityAt ws at - 1) s
 
@@ -248,7 +224,7 @@ module _ (ws : List ℕ) (around : Around) where
       marked-here =
           ap (λ (r : Result). r .here) (sym (kids-visit ws around at s))
           ∙ ap (λ (n : ℕ). visitAt ws (at + 1) n around s .here) (m .count)
-          ∙ here-first (at + 1) (arityAt ws at - 1) s _ _ (plain-here (at + 1) s (m .place) (plain-28 _ (m .kind)))
+          ∙ here-first (at + 1) (arityAt ws at - 1) s _ _ (plain-here ws around (at + 1) s (m .place) (plain-28 _ (m .kind)))
 
       pub marked-decorators : decorators (visit around (kidsAt ws at) s .here) ≡ visitAt ws (at + 2) (arityAt ws (at + 1)) around s .here
       marked-decorators =
@@ -275,7 +251,7 @@ module _ (ws : List ℕ) (around : Around) where
           (visitAt ws (endOf ws (parametersAt ws at) 1) (arityAt ws at - 3) around (visitAt ws (parametersAt ws at) 1 around (atParameters ws around at s) .after) .here)
       called-third =
           ap (λ (n : ℕ). visitAt ws (parametersAt ws at) n around (atParameters ws around at s) .here) (c .count)
-          ∙ here-first (parametersAt ws at) (arityAt ws at - 3) (atParameters ws around at s) _ _ (plain-here (parametersAt ws at) (atParameters ws around at s) (c .place) (plain-36 _ (c .kind)))
+          ∙ here-first (parametersAt ws at) (arityAt ws at - 3) (atParameters ws around at s) _ _ (plain-here ws around (parametersAt ws at) (atParameters ws around at s) (c .place) (plain-36 _ (c .kind)))
 
       called-here : visit around (kidsAt ws at) s .here ≡
           node (labelAt ws (at + 1)) (visit around (kidsAt ws (at + 1)) s .here) (

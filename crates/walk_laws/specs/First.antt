@@ -7,20 +7,19 @@ use native.Mathlib.Omega.{arith}
 use lib.Dec.{eqb, T}
 use lib.ListN.{length, replicate, length-replicate, replicate-append-replicate}
 use borrow.Author.Tests.{eqb-true, eq-eqb}
-use Rattle.words.specs.Table.{lookup}
 use Rattle.words.specs.Word.{bit1}
 use Rattle.records.specs.Forest.{end, node, takeF, appendF, countF, appendF-end}
 use Rattle.records.specs.Label.{Label, Trees, repay, is, bit}
 use Rattle.records.specs.Place.{recordsAt, labelAt, arityAt, kidsAt, endOf}
-use Rattle.grammar.specs.Grammar.{Slot, Element, element, Row, row, noRow, table, rowOf, slotsBelow}
+use Rattle.grammar.specs.Grammar.{Element, element, Row, row, noRow, table, rowOf}
 use Rattle.grammar.specs.WellFormed.{Allowed, Fits}
 use Rattle.grammar.specs.Rows.{each, each-row, implied, allowed-row}
-use Rattle.rewriting.specs.Parts.{list, method, constructor, roleOf, tree, recount, ofParameters, parametersOf, bareMethod, isConstructor, hasConstructor, firstConstructor, bareFirst}
+use Rattle.rewriting.specs.Parts.{method, constructor, roleOf, tree, recount, ofParameters, parametersOf, bareMethod, isConstructor, hasConstructor, firstConstructor, bareFirst}
 use Rattle.rewriting.specs.Visit.{Around, State, Result, kept, own, since, work, inside, entering, join, _then_, visit, visitOne, visit-node}
 use Rattle.walk_laws.specs.Rows.{visitAt, one-here, here-add, kids-visit}
-use Rattle.walk_laws.specs.Slots.{Standing, RowFits, arity-slots}
+use Rattle.walk_laws.specs.Slots.{Standing, RowFits, same-row}
 use Rattle.walk_laws.specs.Single.{Stays, one-stays, keeps, row-nth}
-use Rattle.walk_laws.specs.Roles.{is-kind, role-kind, constructor-kind}
+use Rattle.walk_laws.specs.Roles.{is-kind, role-30, role-31, role-32, role-33, constructor-kind}
 use Rattle.walk_laws.specs.Elements.{below-29}
 use Rattle.walk_laws.specs.ClassPlaces.{row-split}
 
@@ -47,8 +46,8 @@ module _ (around : Around) (l : Label) (k : Trees) (s : State) where
   stays-alike t = record { label = l; below = t .below; whole = t .whole; same = refl }
 
   method-keeps : l .kind ≡ 30 → keeps (roleOf l) ≡ true
-  unfolding keeps roleOf lookup bit
-  method-keeps e = rw e (go (bit bit1 l))
+  unfolding keeps
+  method-keeps e = ap keeps (role-30 l e) ∙ go (bit bit1 l)
     where
       go : (b : Bool) → keeps (cond b constructor method) ≡ true
       go true = refl
@@ -57,12 +56,11 @@ module _ (around : Around) (l : Label) (k : Trees) (s : State) where
   list-alike : l .kind ≡ 33 → Alike l (visitOne around l k s .here)
   unfolding visitOne work since
   list-alike e =
-      let r : roleOf l ≡ list = role-kind l 33 e ∙ (unfold roleOf lookup in refl) in
       let a : Result = visit around k s in
       record {
         label = recount l (a .here);
         below = a .here;
-        whole = rw r (unfold inside entering own in refl);
+        whole = rw (role-33 l e) (unfold inside entering own in refl);
         same = unfold isConstructor is recount repay in rw e;
       }
 
@@ -72,14 +70,14 @@ module _ (around : Around) (l : Label) (k : Trees) (s : State) where
       go : (x : Bool) → eqb (l .kind) 30 ≡ x → (y : Bool) → eqb (l .kind) 31 ≡ y → (z : Bool) → eqb (l .kind) 32 ≡ z → (w : Bool) → eqb (l .kind) 33 ≡ w →
           T (x || y || z || w) → Alike l (visitOne around l k s .here)
       go true e y f z g w i t = stays-alike (one-stays around l k s (method-keeps (eqb-true (l .kind) 30 e)))
-      go false e true f z g w i t = stays-alike (one-stays around l k s (ap keeps (role-kind l 31 (eqb-true (l .kind) 31 f)) ∙ (unfold keeps roleOf lookup in refl)))
-      go false e false f true g w i t = stays-alike (one-stays around l k s (ap keeps (role-kind l 32 (eqb-true (l .kind) 32 g)) ∙ (unfold keeps roleOf lookup in refl)))
+      go false e true f z g w i t = stays-alike (one-stays around l k s (ap keeps (role-31 l (eqb-true (l .kind) 31 f)) ∙ (unfold keeps in refl)))
+      go false e false f true g w i t = stays-alike (one-stays around l k s (ap keeps (role-32 l (eqb-true (l .kind) 32 g)) ∙ (unfold keeps in refl)))
       go false e false f false g true i t = list-alike (eqb-true (l .kind) 33 i)
       go false e false f false g false i t = absurd t
 
 constructor-role : (l : Label) → isConstructor l ≡ true → roleOf l ≡ constructor
 unfolding isConstructor
-constructor-role l e = role-kind l 30 (constructor-kind l e) ∙ (unfold roleOf lookup bit in ap (λ (b : Bool). cond b constructor method) (rw (is-kind l 30 (constructor-kind l e)) at e))
+constructor-role l e = role-30 l (constructor-kind l e) ∙ ap (λ (b : Bool). cond b constructor method) (rw (is-kind l 30 (constructor-kind l e)) at e)
 
 -- a constructor keeps its children as visited
 constructor-one : (around : Around) (l : Label) (k : Trees) (s : State) → isConstructor l ≡ true → visitOne around l k s .here ≡ tree l (visit around k s .here)
@@ -169,11 +167,12 @@ module _ (ws : List ℕ) (b j : ℕ) where
     behindNth = visitAt ws (endOf ws nth 1) (arityAt ws b - j - 1) around (visitAt ws nth 1 around atNth .after) .here
 
 module _ (ws : List ℕ) (b : ℕ) (t : Standing ws b) (kind : labelAt ws b .kind ≡ 29) where
+  pub elements-row : RowFits ws (b + 1) (arityAt ws b) (replicate (arityAt ws b) element)
+  elements-row = same-row ws b 29 t element kind (below-29 (t .slot) (labelAt ws b .payload))
+
   elements-fit : Fits (replicate (arityAt ws b) element) (kidsAt ws b)
-  elements-fit =
-      let e : slotsBelow (t .slot) (labelAt ws b .kind) (labelAt ws b .payload) ≡ replicate (labelAt ws b .payload) element = ap (λ (k : ℕ). slotsBelow (t .slot) k (labelAt ws b .payload)) kind ∙ below-29 (t .slot) (labelAt ws b .payload) in
-      let n : arityAt ws b ≡ labelAt ws b .payload = arity-slots ws b t ∙ ap length e ∙ length-replicate (labelAt ws b .payload) element in
-      subst (λ (k : ℕ). Fits (replicate k element) (kidsAt ws b)) (sym n) (subst (λ (qs : List Slot). Fits qs (kidsAt ws b)) e (t .kids))
+  unfolding kidsAt
+  elements-fit = unfold RowFits in elements-row
 
   module _ (around : Around) (s : State) where
     pub element-count : countF (visit around (kidsAt ws b) s .here) ≡ arityAt ws b
@@ -196,10 +195,6 @@ module _ (ws : List ℕ) (b : ℕ) (t : Standing ws b) (kind : labelAt ws b .kin
           ∙ (unfold firstConstructor in refl)
 
     module _ (j : ℕ) (j< : j < arityAt ws b) (before : hasConstructor (takeF j (recordsAt ws (b + 1))) ≡ false) (there : isConstructor (labelAt ws (endOf ws (b + 1) j)) ≡ true) where
-      elements-row : RowFits ws (b + 1) (arityAt ws b) (replicate (arityAt ws b) element)
-      unfolding RowFits
-      elements-row = unfold kidsAt in elements-fit
-
       count-split : arityAt ws b ≡ j + (1 + (arityAt ws b - j - 1))
       count-split = omega arith
 

@@ -1,6 +1,6 @@
--- Records by kind at a place of an accepted module: the role of a kind, a class statement's class, the number of a record's children. Assumes nothing.
+-- Records by kind at a place of an accepted module: an element, a record that does nothing of its own, a class statement; the number of children. Assumes nothing.
 use mathlib.Core.Path.{_≡_, refl, ap, sym, subst, _∙_}
-use mathlib.Core.Bool.{Bool, true, false, _&&_, _||_, cond}
+use mathlib.Core.Bool.{Bool, true, false, _&&_, _||_, cond, and-false}
 use mathlib.Core.Option.{Option}
 use mathlib.Core.List.{List, [], _∷_}
 use Prim.Native.Nat.{ℕ, _+_, _<_, _≤_}
@@ -17,10 +17,10 @@ use Rattle.grammar.specs.Grammar.{Slot, rowOf, table, row, slots, slotsBelow, m
 use Rattle.grammar.specs.WellFormed.{Fits}
 use Rattle.grammar.specs.Children.{allowed-sole}
 use Rattle.grammar.specs.Rows.{soleKind}
-use Rattle.rewriting.specs.Parts.{Role, module′ as moduleRole, list, statement, expression, method, constructor, plain, field, roleOf, tree, isMember, isDecoratedMember, hasPlainKey, classKids}
+use Rattle.rewriting.specs.Parts.{Role, module′ as moduleRole, list, method, constructor, plain, field, roleOf, isMember, isDecoratedMember, hasPlainKey, classKids}
 use Rattle.rewriting.specs.Visit.{Around, State, visit, visitOne}
-use Rattle.walk_laws.specs.Rows.{visitAt, plain-one, one-here}
-use Rattle.walk_laws.specs.Slots.{Standing, standing-at, RowFits, kids-row, arity-slots, row-first, fits-count}
+use Rattle.walk_laws.specs.Slots.{Standing, standing-at, RowFits, kind-row, arity-slots, row-first, fits-count}
+use Rattle.walk_laws.specs.Roles.{role-30, role-31, role-32, no-member}
 use Rattle.walk_laws.specs.After.{memberAfter, after-plain, after-list, after-module, after-constructor, after-method, after-field}
 
 member-none : (b p : Bool) (id : Option ℕ) (s : State) → b ≡ false → memberAfter b p id s ≡ s
@@ -30,34 +30,6 @@ member-none b p id s e = rw e
 -- ---- roles
 
 module _ (l : Label) where
-  pub role-4 : l .kind ≡ 4 → roleOf l ≡ statement
-  unfolding roleOf lookup
-  role-4 e = rw e
-
-  pub role-20 : l .kind ≡ 20 → roleOf l ≡ expression
-  unfolding roleOf lookup
-  role-20 e = rw e
-
-  pub role-26 : l .kind ≡ 26 → roleOf l ≡ plain
-  unfolding roleOf lookup
-  role-26 e = rw e
-
-  pub role-28 : l .kind ≡ 28 → roleOf l ≡ plain
-  unfolding roleOf lookup
-  role-28 e = rw e
-
-  role-30 : l .kind ≡ 30 → roleOf l ≡ cond (bit bit1 l) constructor method
-  unfolding roleOf lookup
-  role-30 e = rw e
-
-  role-31 : l .kind ≡ 31 → roleOf l ≡ field (14 ∶ 0)
-  unfolding roleOf lookup
-  role-31 e = rw e
-
-  role-32 : l .kind ≡ 32 → roleOf l ≡ field (13 ∶ 0)
-  unfolding roleOf lookup
-  role-32 e = rw e
-
   -- a kind whose records do nothing of their own
   pub role-rest : (P : Role → Type 0) → P moduleRole → P list → P plain → (l .kind ≡ 4 → ⊥) → (l .kind ≡ 20 → ⊥) → (l .kind ≡ 30 → ⊥) → (l .kind ≡ 31 → ⊥) → (l .kind ≡ 32 → ⊥) → P (roleOf l)
   role-rest P m i p a b c d e =
@@ -126,18 +98,12 @@ role-element l P e c m f =
     go k true t = c (not-member l k t)
     go k false t = m
 
--- a constructor isn't a decorated member
-pub no-member : (b : Bool) (l : Label) (k : Trees) → isMember l ≡ false → (b && isDecoratedMember l k) ≡ false
-unfolding isDecoratedMember
-no-member true l k e = rw e
-no-member false l k e = refl
-
 after-element : (l : Label) (around : Around) (k : Trees) (s : State) → 2 ≤ countF k → isElementKind (l .kind) ≡ true →
     visitOne around l k s .after ≡ memberAfter (around .live && isDecoratedMember l k) (hasPlainKey k) (around .id) (visit around k s .after)
 after-element l around k s h e =
     role-element l
     (λ (r : Role). roleOf l ≡ r → visitOne around l k s .after ≡ memberAfter (around .live && isDecoratedMember l k) (hasPlainKey k) (around .id) (visit around k s .after)) e
-    (λ m r. after-constructor around l k s r ∙ sym (member-none (around .live && isDecoratedMember l k) (hasPlainKey k) (around .id) (visit around k s .after) (no-member (around .live) l k m)))
+    (λ m r. after-constructor around l k s r ∙ sym (member-none (around .live && isDecoratedMember l k) (hasPlainKey k) (around .id) (visit around k s .after) (ap (around .live &&_) (no-member l k m) ∙ and-false (around .live))))
     (after-method around l k s h) (after-field around l k s h) refl
 
 below-4 : (q : Slot) (p : ℕ) → slotsBelow q 4 p ≡ classUnder p ∷ []
@@ -166,21 +132,18 @@ module _ (ws : List ℕ) (whole : Fits (module′ ∷ []) (recordsAt ws 0)) (at 
   -- ---- a class statement
 
   module _ (kind : labelAt ws at .kind ≡ 4) where
-    class-slots : slotsBelow (standing .slot) (labelAt ws at .kind) (labelAt ws at .payload) ≡ classUnder (labelAt ws at .payload) ∷ []
-    class-slots = ap (λ (k : ℕ). slotsBelow (standing .slot) k (labelAt ws at .payload)) kind ∙ below-4 (standing .slot) (labelAt ws at .payload)
+    class-row : (arityAt ws at ≡ 1) × RowFits ws (at + 1) 1 (classUnder (labelAt ws at .payload) ∷ [])
+    class-row = kind-row ws at 4 standing _ kind (below-4 (standing .slot) (labelAt ws at .payload))
 
     pub class-one : arityAt ws at ≡ 1
-    class-one = arity-slots ws at standing ∙ ap length class-slots
-
-    class-row : RowFits ws (at + 1) 1 (classUnder (labelAt ws at .payload) ∷ [])
-    class-row = subst (λ (n : ℕ). RowFits ws (at + 1) n (classUnder (labelAt ws at .payload) ∷ [])) class-one (subst (RowFits ws (at + 1) (arityAt ws at)) class-slots (kids-row ws at standing))
+    class-one = class-row .0
 
     pub class-inside : at + 1 < length ws
-    class-inside = row-first ws (at + 1) 0 _ [] class-row .0
+    class-inside = row-first ws (at + 1) 0 _ [] (class-row .1) .0
 
     pub class-kind : labelAt ws (at + 1) .kind ≡ 26
     unfolding soleKind lookup
-    class-kind = allowed-sole (classUnder (labelAt ws at .payload)) (labelAt ws (at + 1)) (row-first ws (at + 1) 0 _ [] class-row .1) tt
+    class-kind = allowed-sole (classUnder (labelAt ws at .payload)) (labelAt ws (at + 1)) (row-first ws (at + 1) 0 _ [] (class-row .1) .1) tt
 
     -- the child is that class
     pub class-row-one : kidsAt ws at ≡ takeF 1 (recordsAt ws (at + 1))
@@ -189,8 +152,3 @@ module _ (ws : List ℕ) (whole : Fits (module′ ∷ []) (recordsAt ws 0)) (at 
 
     pub class-kids : classKids (kidsAt ws at) ≡ kidsAt ws (at + 1)
     class-kids = ap classKids (class-row-one ∙ record-one ws (at + 1) class-inside) ∙ (unfold classKids in refl)
-
-    -- the class is kept, over its children visited
-    pub class-here : (around : Around) (s : State) → visitAt ws (at + 1) 1 around s .here ≡ tree (labelAt ws (at + 1)) (visit around (kidsAt ws (at + 1)) s .here)
-    class-here around s =
-        one-here ws around (at + 1) s class-inside ∙ ap (λ r. r .here) (plain-one around (labelAt ws (at + 1)) (kidsAt ws (at + 1)) s (role-26 (labelAt ws (at + 1)) class-kind))

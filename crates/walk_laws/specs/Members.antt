@@ -12,10 +12,10 @@ use Rattle.grammar.specs.Grammar.{module′}
 use Rattle.grammar.specs.WellFormed.{Fits}
 use Rattle.rewriting.specs.Parts.{tree, roleOf, decoratorsOf, undecorate, bareParameters, bareMethod, bareField, isMember, isConstructor, isDecoratedMember, hasPlainKey}
 use Rattle.rewriting.specs.Visit.{Around, State, Result, Taken, classSymbol, nameIf, nameOf, withKey, called₁, called₂, memberIf, member, since, visit, visitOne}
-use Rattle.walk_laws.specs.Rows.{visitAt}
+use Rattle.walk_laws.specs.Rows.{visitAt, plain-here}
 use Rattle.walk_laws.specs.Written.{wordBy, written, written-end, written-node, written-tree}
 use Rattle.walk_laws.specs.Roles.{is-kind, kind-is, plain-37, constructor-kind, bareBy, descriptorBy, member-one}
-use Rattle.walk_laws.specs.Elements.{Marked, Keyed, Called, keyAt, parametersAt, atKey, atParameters, marked-bare, key-stays, keyed-here, called-bare, plain-here, parameter-marked, method-called, member-keyed}
+use Rattle.walk_laws.specs.Elements.{Marked, Keyed, Called, keyAt, parametersAt, atKey, atParameters, marked-bare, key-stays, keyed-here, called-bare, parameter-marked, method-called, member-keyed}
 
 kind-word : (word : ℕ → ℕ → ℕ) (l : Label) (k : ℕ) → l .kind ≡ k → wordBy word l ≡ word k (l .payload)
 unfolding wordBy

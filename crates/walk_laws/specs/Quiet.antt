@@ -19,7 +19,7 @@ use Rattle.rewriting.specs.Visit.{Around, State, Result, memberIf, member, deco
 use Rattle.walk_laws.specs.Rows.{visitAt}
 use Rattle.walk_laws.specs.Slots.{Standing, RowFits}
 use Rattle.walk_laws.specs.Single.{T-true}
-use Rattle.walk_laws.specs.Roles.{role-kind}
+use Rattle.walk_laws.specs.Roles.{role-4, role-20, no-member}
 
 -- ---- slots below which no member stands, but in classes of their own
 
@@ -67,10 +67,6 @@ noMember p o k r = cond (quiet (r .category)) (not (isMember (record { kind = k;
 pub quiet-member : (l : Label) → quiet (rowOf (l .kind) .category) ≡ true → isMember l ≡ false
 unfolding each table row noRow noMember quiet isMember is lookup
 quiet-member l e = not-true (isMember l) (T-true (not (isMember l)) (implied (quiet (rowOf (l .kind) .category)) (not (isMember l)) (each-row (noMember (l .payload) (l .from)) tt (l .kind) tt) e))
-
-pub no-member : (l : Label) (k : Trees) → isMember l ≡ false → isDecoratedMember l k ≡ false
-unfolding isDecoratedMember
-no-member l k e = rw e
 
 unfoldable noClass : ℕ → Row → Bool
 noClass k r = cond (eqb (r .category) Element) (not (hasClass k)) true
@@ -135,8 +131,8 @@ unfolding hasClass
 class-quiet around l k s h = go (eqb (l .kind) 4) refl (eqb (l .kind) 20) refl h
   where
     go : (x : Bool) → eqb (l .kind) 4 ≡ x → (y : Bool) → eqb (l .kind) 20 ≡ y → (x || y) ≡ true → visitOne around l k s .calls ≡ end
-    go true e y f t = statement-calls around l k s (role-kind l 4 (eqb-true (l .kind) 4 e) ∙ (unfold roleOf lookup in refl))
-    go false e true f t = expression-calls around l k s (role-kind l 20 (eqb-true (l .kind) 20 f) ∙ (unfold roleOf lookup in refl))
+    go true e y f t = statement-calls around l k s (role-4 l (eqb-true (l .kind) 4 e))
+    go false e true f t = expression-calls around l k s (role-20 l (eqb-true (l .kind) 20 f))
     go false e false f t = absurd (false≢true t)
 
 -- ---- records in such slots

@@ -1,5 +1,5 @@
 -- The visit of a row of records by its place in the words: one row behind another, one record, a record by its role. Assumes nothing.
-use mathlib.Core.Path.{_≡_, refl, ap, _∙_}
+use mathlib.Core.Path.{_≡_, refl, ap, sym, _∙_}
 use mathlib.Core.Option.{none}
 use mathlib.Core.List.{List, [], _++_}
 use Prim.Native.Nat.{ℕ, _+_, _<_, _≤_}
@@ -7,7 +7,7 @@ use lib.ListN.{length}
 use Rattle.records.specs.Forest.{end, takeF, dropF, appendF, takeF-add, takeF-end, appendF-end}
 use Rattle.records.specs.Label.{Label, Trees}
 use Rattle.records.specs.Place.{recordsAt, labelAt, arityAt, kidsAt, endOf, end-drop, record-one, records-past}
-use Rattle.rewriting.specs.Parts.{expression, plain, field, roleOf, tree}
+use Rattle.rewriting.specs.Parts.{plain, roleOf, tree}
 use Rattle.rewriting.specs.Visit.{Around, State, Result, visit, visitOne, visit-node, join, _then_, work, since, own, kept, inside, entering, signedBy}
 use Rattle.rewriting.specs.Facts.{visit-append}
 
@@ -74,6 +74,17 @@ module _ (ws : List ℕ) (around : Around) where
 -- ---- a record by its role
 
 module _ (around : Around) (l : Label) (k : Trees) (s : State) where
-  pub plain-one : roleOf l ≡ plain → visitOne around l k s ≡ record { here = tree l (visit around k s .here); calls = visit around k s .calls; fresh = visit around k s .fresh ++ []; after = visit around k s .after }
+  plain-one : roleOf l ≡ plain → visitOne around l k s ≡ record { here = tree l (visit around k s .here); calls = visit around k s .calls; fresh = visit around k s .fresh ++ []; after = visit around k s .after }
   unfolding visitOne work since
   plain-one e = rw e (unfold own kept inside entering signedBy in refl)
+
+-- a plain one at its place
+module _ (ws : List ℕ) (around : Around) (at : ℕ) (s : State) (h : at < length ws) (e : roleOf (labelAt ws at) ≡ plain) where
+  pub plain-here : visitAt ws at 1 around s .here ≡ tree (labelAt ws at) (visit around (kidsAt ws at) s .here)
+  plain-here = one-here ws around at s h ∙ ap (λ (r : Result). r .here) (plain-one around (labelAt ws at) (kidsAt ws at) s e)
+
+  pub plain-calls : visitAt ws at 1 around s .calls ≡ visit around (kidsAt ws at) s .calls
+  plain-calls = one-calls ws around at s h ∙ ap (λ (r : Result). r .calls) (plain-one around (labelAt ws at) (kidsAt ws at) s e)
+
+  pub plain-after : visitAt ws at 1 around s .after ≡ visitAt ws (at + 1) (arityAt ws at) around s .after
+  plain-after = one-after ws around at s h ∙ ap (λ (r : Result). r .after) (plain-one around (labelAt ws at) (kidsAt ws at) s e) ∙ ap (λ (r : Result). r .after) (sym (kids-visit ws around at s))

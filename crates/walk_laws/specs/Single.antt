@@ -1,4 +1,4 @@
--- What one record becomes: one record with its own label, or one of its kind; and the records of a row with one slot for all. Assumes nothing.
+-- What one record becomes: which keep their label; and the records of a row with one slot for all. Assumes nothing.
 use mathlib.Core.Path.{_≡_, refl, ap, sym, subst, _∙_}
 use mathlib.Core.Bool.{Bool, true, false, _&&_, cond, false≢true}
 use mathlib.Core.Option.{Option}
@@ -9,14 +9,13 @@ use lib.Dec.{eqb, T}
 use lib.ListN.{length, replicate}
 use borrow.Author.Tests.{eq-eqb}
 use Rattle.words.specs.Table.{lookup}
-use Rattle.records.specs.Forest.{end, node, countF}
-use Rattle.records.specs.Label.{Label, Origin, Trees, _∶_, repay}
+use Rattle.records.specs.Label.{Label, Origin, Trees, _∶_}
 use Rattle.records.specs.Place.{labelAt, kidsAt, endOf, end-none, end-add}
 use Rattle.grammar.specs.Grammar.{Slot, Expression, Row, row, noRow, table, rowOf}
 use Rattle.grammar.specs.WellFormed.{Allowed}
 use Rattle.grammar.specs.Rows.{each, each-row, implied, allowed-row}
-use Rattle.rewriting.specs.Parts.{Role, module′, list, statement, expression, method, constructor, plain, field, roleOf, tree, recount, decorators, decoratorsOf, bareMethod, bareField, isDecoratedMember}
-use Rattle.rewriting.specs.Visit.{Around, State, Result, wholeModule, kept, deadClass, called₁, called₂, memberIf, member, own, since, work, inside, entering, visit, visitOne}
+use Rattle.rewriting.specs.Parts.{Role, module′, list, statement, expression, method, constructor, plain, field, roleOf, tree, decorators, decoratorsOf, bareMethod, bareField, isDecoratedMember}
+use Rattle.rewriting.specs.Visit.{Around, State, Result, kept, deadClass, called₁, called₂, memberIf, member, own, since, work, inside, entering, visit, visitOne}
 use Rattle.walk_laws.specs.Rows.{visitAt, one-here}
 use Rattle.walk_laws.specs.Slots.{RowFits, row-first}
 
@@ -24,13 +23,6 @@ use Rattle.walk_laws.specs.Slots.{RowFits, row-first}
 pub record Stays (l : Label) (f : Trees) : Type 0 where
   pub below : Trees
   pub whole : f ≡ tree l below
-
--- one record of kind k
-pub record OfKind (k : ℕ) (f : Trees) : Type 0 where
-  pub label : Label
-  pub below : Trees
-  pub whole : f ≡ tree label below
-  pub kind : label .kind ≡ k
 
 -- ---- by role
 
@@ -45,22 +37,8 @@ keeps constructor = true
 keeps plain = true
 keeps (field d) = true
 
--- those of which a record stays one record of its kind
-unfoldable pub remains : Role → Bool
-remains module′ = true
-remains list = true
-remains statement = false
-remains expression = true
-remains method = true
-remains constructor = true
-remains plain = true
-remains (field d) = true
-
 stays-tree : (l : Label) (k : Trees) → Stays l (tree l k)
 stays-tree l k = record { below = k; whole = refl }
-
-pub stays-kind : (l : Label) (f : Trees) → Stays l f → OfKind (l .kind) f
-stays-kind l f s = record { label = l; below = s .below; whole = s .whole; kind = refl }
 
 memberIf-stays : (b : Bool) (around : Around) (l : Label) (kids bare entries : Trees) (d : Label) (a : Result) → Stays l (memberIf b around l kids bare entries d a .here)
 unfolding memberIf called₁ called₂
@@ -78,32 +56,12 @@ own-stays constructor around l kids outside a e = stays-tree l (a .here)
 own-stays plain around l kids outside a e = stays-tree l (a .here)
 own-stays (field d) around l kids outside a e = memberIf-stays (around .live && isDecoratedMember l kids) around l kids (bareField (a .here)) (decorators (a .here)) d a
 
-module-kind : (l : Label) (f : Trees) (n : ℕ) → OfKind (l .kind) (wholeModule l f n)
-unfolding wholeModule repay
-module-kind l end n = record { label = l; below = end; whole = refl; kind = refl }
-module-kind l (node s sk rest) n = record { label = repay l (countF rest); below = node (repay s n) sk rest; whole = refl; kind = refl }
-
-own-kind : (r : Role) (around : Around) (l : Label) (kids : Trees) (outside : Option ℕ) (a : Result) → remains r ≡ true → OfKind (l .kind) (own r around l kids outside a .here)
-unfolding own remains keeps recount repay
-own-kind module′ around l kids outside a e = module-kind l (a .here) (a .after .next)
-own-kind list around l kids outside a e = record { label = recount l (a .here); below = a .here; whole = refl; kind = refl }
-own-kind statement around l kids outside a e = absurd (false≢true e)
-own-kind expression around l kids outside a e = stays-kind l _ (own-stays expression around l kids outside a refl)
-own-kind method around l kids outside a e = stays-kind l _ (own-stays method around l kids outside a refl)
-own-kind constructor around l kids outside a e = stays-kind l _ (own-stays constructor around l kids outside a refl)
-own-kind plain around l kids outside a e = stays-kind l _ (own-stays plain around l kids outside a refl)
-own-kind (field d) around l kids outside a e = stays-kind l _ (own-stays (field d) around l kids outside a refl)
-
 -- ---- the visit of one record
 
 module _ (around : Around) (l : Label) (k : Trees) (s : State) where
   pub one-stays : keeps (roleOf l) ≡ true → Stays l (visitOne around l k s .here)
   unfolding visitOne work since
   one-stays e = own-stays (roleOf l) around l k (s .default) (visit (inside (roleOf l) around k) k (entering (roleOf l) s)) e
-
-  pub one-kind : remains (roleOf l) ≡ true → OfKind (l .kind) (visitOne around l k s .here)
-  unfolding visitOne work since
-  one-kind e = own-kind (roleOf l) around l k (s .default) (visit (inside (roleOf l) around k) k (entering (roleOf l) s)) e
 
 -- ---- an expression keeps its label
 

@@ -7,8 +7,7 @@ use native.Mathlib.Numerals.{add-one}
 use native.Mathlib.Omega.{arith}
 use lib.Dec.{ltb}
 use borrow.Author.Tests.{ltb-true, ltb-false}
-use lib.ListN.{length}
-use Rattle.words.specs.Word.{children}
+use lib.ListN.{length, replicate, length-replicate}
 use Rattle.records.specs.Forest.{end, node, takeF, dropF, appendF, countF, take-drop, takeF-end}
 use Rattle.records.specs.Label.{Label, Trees, arity}
 use Rattle.records.specs.Place.{recordsAt, labelAt, arityAt, kidsAt, endOf, records-node, records-past, records-first}
@@ -81,13 +80,29 @@ module _ (ws : List ℕ) where
   -- ---- rows
 
   -- the children of a record, as a row
-  pub kids-row : (i : ℕ) → (t : Standing ws i) → RowFits ws (i + 1) (arityAt ws i) (slotsBelow (t .slot) (labelAt ws i .kind) (labelAt ws i .payload))
+  kids-row : (i : ℕ) → (t : Standing ws i) → RowFits ws (i + 1) (arityAt ws i) (slotsBelow (t .slot) (labelAt ws i .kind) (labelAt ws i .payload))
   unfolding RowFits
   kids-row i t = unfold kidsAt in t .kids
 
   pub arity-slots : (i : ℕ) → (t : Standing ws i) → arityAt ws i ≡ length (slotsBelow (t .slot) (labelAt ws i .kind) (labelAt ws i .payload))
   unfolding arityAt arity
   arity-slots i t = sym (length-below (t .slot) (labelAt ws i .kind) (labelAt ws i .payload) (t .own .grammar))
+
+  -- the children of a record of kind k
+  pub kind-row : (i k : ℕ) (t : Standing ws i) (rs : List Slot) → labelAt ws i .kind ≡ k → slotsBelow (t .slot) k (labelAt ws i .payload) ≡ rs →
+      (arityAt ws i ≡ length rs) × RowFits ws (i + 1) (length rs) rs
+  kind-row i k t rs e b =
+      let all : slotsBelow (t .slot) (labelAt ws i .kind) (labelAt ws i .payload) ≡ rs = ap (λ (n : ℕ). slotsBelow (t .slot) n (labelAt ws i .payload)) e ∙ b in
+      let count : arityAt ws i ≡ length rs = arity-slots i t ∙ ap length all in
+      (count, subst (λ (n : ℕ). RowFits ws (i + 1) n rs) count (subst (RowFits ws (i + 1) (arityAt ws i)) all (kids-row i t)))
+
+  -- of one whose payload counts children of one slot
+  pub same-row : (i k : ℕ) (t : Standing ws i) (q : Slot) → labelAt ws i .kind ≡ k → slotsBelow (t .slot) k (labelAt ws i .payload) ≡ replicate (labelAt ws i .payload) q →
+      RowFits ws (i + 1) (arityAt ws i) (replicate (arityAt ws i) q)
+  same-row i k t q e b =
+      let r = kind-row i k t (replicate (labelAt ws i .payload) q) e b in
+      let n : length (replicate (labelAt ws i .payload) q) ≡ labelAt ws i .payload = length-replicate (labelAt ws i .payload) q in
+      subst (λ (m : ℕ). RowFits ws (i + 1) m (replicate m q)) (sym (r .0 ∙ n)) (subst (λ (m : ℕ). RowFits ws (i + 1) m (replicate (labelAt ws i .payload) q)) n (r .1))
 
   -- the first of a row, and the others
   pub row-first : (at k : ℕ) (q : Slot) (qs : List Slot) → RowFits ws at (suc k) (q ∷ qs) →

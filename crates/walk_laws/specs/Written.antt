@@ -1,7 +1,7 @@
 -- The words of a forest as they are written: each label by a function of its kind and payload. Assumes nothing.
 use mathlib.Core.Path.{_≡_, refl, ap, _∙_}
 use mathlib.Core.List.{List, [], _∷_, _++_, map, map-append, append-nil}
-use Prim.Native.Nat.{ℕ, _+_}
+use Prim.Native.Nat.{ℕ}
 use lib.ListN.{length, length-map}
 use Rattle.records.specs.Forest.{end, node, flat, size, appendF, flat-append}
 use Rattle.records.specs.Label.{Label, Trees}
