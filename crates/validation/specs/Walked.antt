@@ -5,6 +5,8 @@ use mathlib.Core.List.{List, _++_}
 use Prim.Native.Nat.{ℕ, _<_}
 use lib.ListN.{length, drop, getD}
 use lib.Dec.{eqb}
+use Rattle.words.specs.Shape.{bitOf}
+use Rattle.words.specs.Word.{kindOf}
 use Rattle.grammar.specs.Grammar.{Statement, Expression, Class, Element}
 use Rattle.grammar.specs.Scan.{Place, judge, faultAt}
 use Rattle.validation.specs.declared.Step.{Step}
@@ -21,6 +23,14 @@ pub record Walked (s : ℕ) (ws : List ℕ) (at : ℕ) (qs : List Place) (r : St
 pub record Here (s : ℕ) (ws : List ℕ) (at : ℕ) (q : Place) : Type 0 where
   pub inside : at < length ws
   pub free : faultAt s q (getD ws at 0) ≡ 0
+
+-- the kinds whose children, if any, are expressions: bit k for the kind k
+unfoldable pub plain : ℕ
+plain = 1151517851620
+
+-- the word at `at` is of another kind
+pub record Apart (ws : List ℕ) (at : ℕ) : Type 0 where
+  pub kind : bitOf plain (kindOf (getD ws at 0)) ≡ 0
 
 -- a category that has no walker of its own
 pub record Other (category : ℕ) : Type 0 where

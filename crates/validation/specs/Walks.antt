@@ -14,12 +14,12 @@ use Rattle.words.specs.Table.{lookup}
 use Rattle.words.specs.Shape.{bitOf}
 use Rattle.words.specs.Word.{kindOf, payloadOf, bit0, bit1, bit2, children}
 use Rattle.grammar.specs.Limits.{maxDepth}
-use Rattle.grammar.specs.Grammar.{slot, Run, Row, row, noRow, leaf, expressions, oneExpression, statements, table, rowOf, holds, symbols, statement, ownStatement, expression, key, classUnder, classExpression, id, decorators, methodDecorators, body, element, methodParameters, functionParameters, parameterOf, parameterDecorators, code, Module, Statement, Expression, Class, Decorators, Body, Element, Parameters, Parameter, Code}
+use Rattle.grammar.specs.Grammar.{slot, Run, Row, row, noRow, leaf, expressions, oneExpression, statements, table, rowOf, holds, symbols, statement, ownStatement, expression, key, classUnder, classExpression, id, decorators, methodDecorators, body, element, methodParameters, functionParameters, parameterOf, parameterDecorators, code, Statement, Expression, Class, Body, Element, Parameters, Parameter, Code}
 use Rattle.grammar.specs.Scan.{Place, place, places, below, belowAt, faultAt, judge}
-use Rattle.grammar.specs.Rows.{each, each-row, implied, test-left, test-right, allowed-row, soleKind, kind-sole, total, total-below}
+use Rattle.grammar.specs.Rows.{each, each-row, implied, test-left, test-right, allowed-row, allowed-known, soleKind, kind-sole, total, total-below}
 use Rattle.grammar.specs.Faults.{Faultless, fault-0}
 use Rattle.validation.specs.declared.Step.{Step}
-use Rattle.validation.specs.Walked.{after, Walked, Here, Other, Rest}
+use Rattle.validation.specs.Walked.{after, Walked, Here, plain, Apart, Other, Rest}
 
 -- ---- walkers one behind the other
 
@@ -71,6 +71,10 @@ module _ {s : ℕ} {ws : List ℕ} {at : ℕ} (c x d : ℕ) (h : Here s ws at (p
   unfolding place
   here-category = allowed-row (slot c x) (kindOf (getD ws at 0)) (payloadOf (getD ws at 0)) (here-faultless .grammar) .0
 
+  here-known : c ≡ 0 → ⊥
+  unfolding place
+  here-known e = allowed-known (slot c x) (kindOf (getD ws at 0)) (payloadOf (getD ws at 0)) (here-faultless .grammar) (here-category ∙ e)
+
   here-rule : holds (rowOf (kindOf (getD ws at 0)) .rule) x (payloadOf (getD ws at 0)) ≡ true
   unfolding place
   here-rule = allowed-row (slot c x) (kindOf (getD ws at 0)) (payloadOf (getD ws at 0)) (here-faultless .grammar) .1
@@ -97,34 +101,25 @@ unfoldable onlyExpressions : List Run → Bool
 onlyExpressions [] = true
 onlyExpressions (r ∷ rs) = cond (eqb (r .slot .category) 4) (cond (eqb (r .slot .context) 0) (onlyExpressions rs) false) false
 
--- so it is of statements but 3 and 4
-unfoldable plainStatement : ℕ → ℕ → ℕ → Row → Bool
-plainStatement x p k r = cond (eqb (r .category) 3) (cond (eqb k 3) true (cond (eqb k 4) true (onlyExpressions (r .below x p)))) true
-
--- and of expressions but 20 and 21
-unfoldable plainExpression : ℕ → ℕ → ℕ → Row → Bool
-plainExpression x p k r = cond (eqb (r .category) 4) (cond (eqb k 20) true (cond (eqb k 21) true (onlyExpressions (r .below x p)))) true
-
 unfoldable elementKind : ℕ → Row → Bool
 elementKind k r = cond (eqb (r .category) 9) (cond (eqb k 30) true (cond (eqb k 33) true (cond (eqb k 31) true (eqb k 32)))) true
 
--- the categories whose records have no children
-unfoldable isLeaf : ℕ → Bool
-isLeaf c = lookup c ((1, false) ∷ (3, false) ∷ (4, false) ∷ (5, false) ∷ (7, false) ∷ (8, false) ∷ (9, false) ∷ (10, false) ∷ (11, false) ∷ (12, false) ∷ []) true
-
-unfoldable isNone : List Run → Bool
-isNone [] = true
-isNone (r ∷ rs) = false
-
-unfoldable leafRow : ℕ → ℕ → ℕ → Row → Bool
-leafRow x p k r = cond (isLeaf (r .category)) (isNone (r .below x p)) true
-
--- the kinds whose children, if any, are expressions: bit k for the kind k
-unfoldable pub plain : ℕ
-plain = 1151517851620
-
 unfoldable plainRow : ℕ → ℕ → ℕ → Row → Bool
 plainRow x p k r = cond (onlyExpressions (r .below x p)) true (eqb (bitOf plain k) 0)
+
+-- the other kinds, by category
+unfoldable apartStatement : ℕ → Row → Bool
+apartStatement k r = cond (eqb (r .category) 3) (cond (eqb (bitOf plain k) 0) (cond (eqb k 3) true (eqb k 4)) true) true
+
+unfoldable apartExpression : ℕ → Row → Bool
+apartExpression k r = cond (eqb (r .category) 4) (cond (eqb (bitOf plain k) 0) (cond (eqb k 20) true (eqb k 21)) true) true
+
+-- of the categories that are left, with 0 for no category
+unfoldable isLeft : ℕ → Bool
+isLeft c = lookup c ((0, false) ∷ (3, false) ∷ (4, false) ∷ (5, false) ∷ (8, false) ∷ (9, false) ∷ (10, false) ∷ (11, false) ∷ (12, false) ∷ []) true
+
+unfoldable apartLeft : ℕ → Row → Bool
+apartLeft k r = cond (isLeft (r .category)) (cond (eqb (bitOf plain k) 0) (eqb k 1) true) true
 
 or-zero : (y : Bool) (n : ℕ) → T (cond y true (eqb n 0)) → (n ≡ 0 → ⊥) → T y
 or-zero true n t m = tt
@@ -135,17 +130,20 @@ module _ (k x p : ℕ) where
   unfolding each table row noRow leaf expressions oneExpression statements plainRow onlyExpressions plain bitOf
   plain-row b = or-zero (onlyExpressions (rowOf k .below x p)) (bitOf plain k) (each-row (plainRow x p) tt k tt) b
 
-  statement-plain : rowOf k .category ≡ 3 → (k ≡ 3 → ⊥) → (k ≡ 4 → ⊥) → T (onlyExpressions (rowOf k .below x p))
-  unfolding each table row noRow leaf expressions oneExpression statements plainStatement onlyExpressions
-  statement-plain e a b = one-off _ k 4 b (one-off _ k 3 a (implied (eqb (rowOf k .category) 3) _ (each-row (plainStatement x p) tt k tt) (eq-eqb _ _ e)))
+module _ (k : ℕ) (b : bitOf plain k ≡ 0) where
+  statement-apart : rowOf k .category ≡ 3 → (k ≡ 3 → ⊥) → k ≡ 4
+  unfolding each table row noRow apartStatement plain bitOf
+  statement-apart e a =
+      eqb→eq k 4 (one-off _ k 3 a (implied (eqb (bitOf plain k) 0) _ (implied (eqb (rowOf k .category) 3) _ (each-row apartStatement tt k tt) (eq-eqb _ _ e)) (eq-eqb _ _ b)))
 
-  expression-plain : rowOf k .category ≡ 4 → (k ≡ 20 → ⊥) → (k ≡ 21 → ⊥) → T (onlyExpressions (rowOf k .below x p))
-  unfolding each table row noRow leaf expressions oneExpression statements plainExpression onlyExpressions
-  expression-plain e a b = one-off _ k 21 b (one-off _ k 20 a (implied (eqb (rowOf k .category) 4) _ (each-row (plainExpression x p) tt k tt) (eq-eqb _ _ e)))
+  expression-apart : rowOf k .category ≡ 4 → (k ≡ 20 → ⊥) → k ≡ 21
+  unfolding each table row noRow apartExpression plain bitOf
+  expression-apart e a =
+      eqb→eq k 21 (one-off _ k 20 a (implied (eqb (bitOf plain k) 0) _ (implied (eqb (rowOf k .category) 4) _ (each-row apartExpression tt k tt) (eq-eqb _ _ e)) (eq-eqb _ _ b)))
 
-  leaf-none : isLeaf (rowOf k .category) ≡ true → T (isNone (rowOf k .below x p))
-  unfolding each table row noRow leaf expressions oneExpression statements leafRow isLeaf isNone lookup
-  leaf-none e = implied (isLeaf (rowOf k .category)) _ (each-row (leafRow x p) tt k tt) e
+  left-apart : isLeft (rowOf k .category) ≡ true → k ≡ 1
+  unfolding each table row noRow apartLeft isLeft lookup plain bitOf
+  left-apart e = eqb→eq k 1 (implied (eqb (bitOf plain k) 0) _ (implied (isLeft (rowOf k .category)) _ (each-row apartLeft tt k tt) e) (eq-eqb _ _ b))
 
 element-two : (k : ℕ) → rowOf k .category ≡ 9 → (k ≡ 30 → ⊥) → (k ≡ 33 → ⊥) → (k ≡ 31) ⊎ (k ≡ 32)
 unfolding each table row noRow elementKind
@@ -165,11 +163,6 @@ plain-places d (r ∷ rs) t =
     let x : r .slot .context ≡ 0 = eqb→eq (r .slot .context) 0 (test-left (eqb (r .slot .context) 0) (onlyExpressions rs) u) in
     let q : place (r .slot) d ≡ place expression d = ap (λ (n : ℕ). place (slot n (r .slot .context)) d) c ∙ ap (λ (n : ℕ). place (slot 4 n) d) x in
     rw (q, plain-places d rs (test-right (eqb (r .slot .context) 0) (onlyExpressions rs) u)) (replicate-append-replicate (r .count) (total rs) (place expression d))
-
-none-places : (d : ℕ) (rs : List Run) → T (isNone rs) → places d rs ≡ []
-unfolding isNone places
-none-places d [] t = refl
-none-places d (r ∷ rs) t = absurd t
 
 -- an accessor has no value
 accessor-flag : (k x p p′ : ℕ) → k ≡ 32 → p ≡ p′ → holds (rowOf k .rule) x p′ ≡ true → p / 2 % 2 ≡ 0
@@ -203,17 +196,17 @@ module _ {s : ℕ} {ws : List ℕ} {at p : ℕ} (c x left : ℕ) (h : Here s ws 
   unfolding places rowOf lookup table row statements
   block-children e = by-kind 3 e
 
-  pub class-statement-children : kindOf (getD ws at 0) ≡ 4 → Below (replicate 1 (place (classUnder p) d) ++ [])
+  pub class-statement-children : Apart ws at → c ≡ Statement → (kindOf (getD ws at 0) ≡ 3 → ⊥) → Below (replicate 1 (place (classUnder p) d) ++ [])
   unfolding places rowOf lookup table row
-  class-statement-children e = by-kind 4 e
+  class-statement-children b e n = by-kind 4 (statement-apart (kindOf (getD ws at 0)) (b .kind) (here-category c x (maxDepth + 1 - left) h ∙ e) n)
 
   pub class-expression-children : kindOf (getD ws at 0) ≡ 20 → Below (replicate 1 (place classExpression d) ++ [])
   unfolding places rowOf lookup table row
   class-expression-children e = by-kind 20 e
 
-  pub function-children : kindOf (getD ws at 0) ≡ 21 → Below (replicate 1 (place functionParameters d) ++ (replicate 1 (place code d) ++ []))
+  pub function-children : Apart ws at → c ≡ Expression → (kindOf (getD ws at 0) ≡ 20 → ⊥) → Below (replicate 1 (place functionParameters d) ++ (replicate 1 (place code d) ++ []))
   unfolding places rowOf lookup table row
-  function-children e = by-kind 21 e
+  function-children b e n = by-kind 21 (expression-apart (kindOf (getD ws at 0)) (b .kind) (here-category c x (maxDepth + 1 - left) h ∙ e) n)
 
   pub method-children : kindOf (getD ws at 0) ≡ 30 → Below (replicate 1 (place (methodDecorators (p / 2 % 2)) d) ++ (replicate 1 (place key d) ++ (replicate 1 (place methodParameters d) ++ (replicate (p / 4 % 2) (place code d) ++ []))))
   unfolding places rowOf lookup table row bit1 bit2
@@ -226,10 +219,6 @@ module _ {s : ℕ} {ws : List ℕ} {at p : ℕ} (c x left : ℕ) (h : Here s ws 
   pub class-children : c ≡ Class → Below (replicate 1 (place decorators d) ++ (replicate (p % 2) (place id d) ++ (replicate (p / 4 % 2) (place expression d) ++ (replicate 1 (place body d) ++ []))))
   unfolding places rowOf lookup table row bit0 bit2 soleKind
   class-children e = by-category Class e tt
-
-  pub decorators-children : c ≡ Decorators → Below (replicate p (place expression d) ++ [])
-  unfolding places rowOf lookup table row expressions soleKind
-  decorators-children e = by-category Decorators e tt
 
   pub body-children : c ≡ Body → Below (replicate p (place element d) ++ [])
   unfolding places rowOf lookup table row soleKind
@@ -247,9 +236,13 @@ module _ {s : ℕ} {ws : List ℕ} {at p : ℕ} (c x left : ℕ) (h : Here s ws 
   unfolding places rowOf lookup table row statements soleKind
   code-children e = by-category Code e tt
 
-  pub module-children : c ≡ Module → Below (replicate 1 (place symbols d) ++ (replicate p (place ownStatement d) ++ []))
-  unfolding places rowOf lookup table row soleKind
-  module-children e = by-category Module e tt
+  pub module-children : Apart ws at → Other c → (c ≡ Body → ⊥) → (c ≡ Parameters → ⊥) → (c ≡ Parameter → ⊥) → (c ≡ Code → ⊥) → Below (replicate 1 (place symbols d) ++ (replicate p (place ownStatement d) ++ []))
+  unfolding places rowOf lookup table row isLeft
+  module-children b n n8 n10 n11 n12 =
+      let k : ℕ = kindOf (getD ws at 0) in
+      let e : rowOf k .category ≡ c = here-category c x (maxDepth + 1 - left) h in
+      let t : isLeft c ≡ true = rw (ne-eqb c 0 (here-known c x (maxDepth + 1 - left) h), ne-eqb c 3 (n .statement), ne-eqb c 4 (n .expression), ne-eqb c 5 (n .class), ne-eqb c 8 n8, ne-eqb c 9 (n .element), ne-eqb c 10 n10, ne-eqb c 11 n11, ne-eqb c 12 n12) in
+      by-kind 1 (left-apart k (b .kind) (ap isLeft e ∙ t))
 
   -- a property or an accessor
   pub field-children : c ≡ Element → (kindOf (getD ws at 0) ≡ 30 → ⊥) → (kindOf (getD ws at 0) ≡ 33 → ⊥)
@@ -263,28 +256,11 @@ module _ {s : ℕ} {ws : List ℕ} {at p : ℕ} (c x left : ℕ) (h : Here s ws 
       λ f. by-kind 32 f ∙ ap (λ (n : ℕ). place decorators d ∷ place key d ∷ replicate n (place expression d)) (sym (accessor-flag k x p (payloadOf (getD ws at 0)) f ep (here-rule c x (maxDepth + 1 - left) h))) in
       ⊎-elim property accessor (element-two k (here-category c x (maxDepth + 1 - left) h ∙ e) a b)
 
-  pub leaf-children : Other c → (c ≡ Decorators → ⊥) → (c ≡ Body → ⊥) → (c ≡ Parameters → ⊥) → (c ≡ Parameter → ⊥) → (c ≡ Code → ⊥) → (c ≡ Module → ⊥) → Below []
-  unfolding isLeaf lookup
-  leaf-children n n7 n8 n10 n11 n12 n1 =
-      let k : ℕ = kindOf (getD ws at 0) in
-      let t : isLeaf c ≡ true = rw (ne-eqb c 1 n1, ne-eqb c 3 (n .statement), ne-eqb c 4 (n .expression), ne-eqb c 5 (n .class), ne-eqb c 7 n7, ne-eqb c 8 n8, ne-eqb c 9 (n .element), ne-eqb c 10 n10, ne-eqb c 11 n11, ne-eqb c 12 n12) in
-      by-kind k refl ∙ none-places d (rowOf k .below x p) (leaf-none k x p (ap isLeaf (here-category c x (maxDepth + 1 - left) h) ∙ t))
-
-  -- a record whose children are n expressions
-  plain-children : (n : ℕ) → n ≡ children (kindOf (getD ws at 0)) (payloadOf (getD ws at 0)) → T (onlyExpressions (rowOf (kindOf (getD ws at 0)) .below x p)) → Below (replicate n (place expression d))
-  plain-children n en t =
-      by-kind (kindOf (getD ws at 0)) refl ∙ plain-places d (rowOf (kindOf (getD ws at 0)) .below x p) t
-      ∙ ap (λ (m : ℕ). replicate m (place expression d)) (ap (λ (m : ℕ). total (rowOf (kindOf (getD ws at 0)) .below x m)) ep ∙ here-total c x (maxDepth + 1 - left) h ∙ sym en)
-
-  pub statement-children : (n : ℕ) → n ≡ children (kindOf (getD ws at 0)) (payloadOf (getD ws at 0)) → c ≡ Statement → (kindOf (getD ws at 0) ≡ 3 → ⊥) → (kindOf (getD ws at 0) ≡ 4 → ⊥) → Below (replicate n (place expression d))
-  statement-children n en e a b = plain-children n en (statement-plain (kindOf (getD ws at 0)) x p (here-category c x (maxDepth + 1 - left) h ∙ e) a b)
-
-  pub expression-children : (n : ℕ) → n ≡ children (kindOf (getD ws at 0)) (payloadOf (getD ws at 0)) → c ≡ Expression → (kindOf (getD ws at 0) ≡ 20 → ⊥) → (kindOf (getD ws at 0) ≡ 21 → ⊥) → Below (replicate n (place expression d))
-  expression-children n en e a b = plain-children n en (expression-plain (kindOf (getD ws at 0)) x p (here-category c x (maxDepth + 1 - left) h ∙ e) a b)
-
-  -- a record of a kind in the set
+  -- a record of a kind in the set has n expressions
   pub plain-below : (n : ℕ) → n ≡ children (kindOf (getD ws at 0)) (payloadOf (getD ws at 0)) → (bitOf plain (kindOf (getD ws at 0)) ≡ 0 → ⊥) → Below (replicate n (place expression d))
-  plain-below n en b = plain-children n en (plain-row (kindOf (getD ws at 0)) x p b)
+  plain-below n en b =
+      by-kind (kindOf (getD ws at 0)) refl ∙ plain-places d (rowOf (kindOf (getD ws at 0)) .below x p) (plain-row (kindOf (getD ws at 0)) x p b)
+      ∙ ap (λ (m : ℕ). replicate m (place expression d)) (ap (λ (m : ℕ). total (rowOf (kindOf (getD ws at 0)) .below x m)) ep ∙ here-total c x (maxDepth + 1 - left) h ∙ sym en)
 
 -- ---- the loop of `records`: k records for the place of c, x and `left` are left, from p on
 

@@ -7,7 +7,7 @@ ghost use Rattle.grammar.specs.Limits.{maxDepth};
 ghost use Rattle.grammar.specs.Grammar.{slot, Statement, Expression, Class, Element};
 ghost use Rattle.grammar.specs.Scan.{place, belowAt, symbolsOf, refusal};
 ghost use Rattle.validation.specs.Verdict.{numberOf};
-ghost use Rattle.validation.specs.Walked.{Walked, Here, Other};
+ghost use Rattle.validation.specs.Walked.{Walked, Here, Apart, Other};
 
 pub enum Verdict {
     Accepted,
@@ -108,9 +108,9 @@ fn records(ws: &[u32], at: usize, s: u32, category: u8, context: u32, left: u32,
     Step { fault: 0, next: p }
 }
 
-// What stands below a record whose own word has no fault, by its category.
+// What stands below a record whose own word has no fault and whose kind is not in PLAIN_KINDS, by its category.
 fn nested(ws: &[u32], at: usize, s: u32, category: u8, context: u32, left: u32) -> Step
-    requires { ⌜ Here s (now ws) at (place (slot category context) (maxDepth + 1 - left)) × (left ≤ maxDepth) ⌝ }
+    requires { ⌜ Here s (now ws) at (place (slot category context) (maxDepth + 1 - left)) × (left ≤ maxDepth) × Apart (now ws) at ⌝ }
     ensures { λ r. ⌜ Walked s (now (ws .entry)) (at + 1) (belowAt (place (slot category context) (maxDepth + 1 - left)) (getD (now (ws .entry)) at 0)) r ⌝ }
 {
     if category == grammar::STATEMENT {
@@ -130,12 +130,11 @@ fn nested(ws: &[u32], at: usize, s: u32, category: u8, context: u32, left: u32) 
 
 // The same of a statement, an expression, a class, an element of a class, any other record.
 fn statement(ws: &[u32], at: usize, s: u32, context: u32, left: u32) -> Step
-    requires { ⌜ Here s (now ws) at (place (slot Statement context) (maxDepth + 1 - left)) × (left ≤ maxDepth) ⌝ }
+    requires { ⌜ Here s (now ws) at (place (slot Statement context) (maxDepth + 1 - left)) × (left ≤ maxDepth) × Apart (now ws) at ⌝ }
     ensures { λ r. ⌜ Walked s (now (ws .entry)) (at + 1) (belowAt (place (slot Statement context) (maxDepth + 1 - left)) (getD (now (ws .entry)) at 0)) r ⌝ }
 {
     let w = ws[at];
-    let kind = words::kind_of(w);
-    if kind == 3 {
+    if words::kind_of(w) == 3 {
         return records(
             ws,
             at + 1,
@@ -146,35 +145,22 @@ fn statement(ws: &[u32], at: usize, s: u32, context: u32, left: u32) -> Step
             words::payload_of(w) as u64,
         );
     }
-    if kind == 4 {
-        return records(
-            ws,
-            at + 1,
-            s,
-            grammar::CLASS,
-            words::payload_of(w),
-            left - 1,
-            1,
-        );
-    }
     records(
         ws,
         at + 1,
         s,
-        grammar::EXPRESSION,
-        grammar::PLAIN,
+        grammar::CLASS,
+        words::payload_of(w),
         left - 1,
-        words::child_count(w) as u64,
+        1,
     )
 }
 
 fn expression(ws: &[u32], at: usize, s: u32, context: u32, left: u32) -> Step
-    requires { ⌜ Here s (now ws) at (place (slot Expression context) (maxDepth + 1 - left)) × (left ≤ maxDepth) ⌝ }
+    requires { ⌜ Here s (now ws) at (place (slot Expression context) (maxDepth + 1 - left)) × (left ≤ maxDepth) × Apart (now ws) at ⌝ }
     ensures { λ r. ⌜ Walked s (now (ws .entry)) (at + 1) (belowAt (place (slot Expression context) (maxDepth + 1 - left)) (getD (now (ws .entry)) at 0)) r ⌝ }
 {
-    let w = ws[at];
-    let kind = words::kind_of(w);
-    if kind == 20 {
+    if words::kind_of(ws[at]) == 20 {
         return records(
             ws,
             at + 1,
@@ -185,30 +171,19 @@ fn expression(ws: &[u32], at: usize, s: u32, context: u32, left: u32) -> Step
             1,
         );
     }
-    if kind == 21 {
-        let a = records(
-            ws,
-            at + 1,
-            s,
-            grammar::PARAMETERS,
-            grammar::OF_FUNCTION,
-            left - 1,
-            1,
-        );
-        if a.fault != 0 {
-            return a;
-        }
-        return records(ws, a.next, s, grammar::CODE, grammar::PLAIN, left - 1, 1);
-    }
-    records(
+    let a = records(
         ws,
         at + 1,
         s,
-        grammar::EXPRESSION,
-        grammar::PLAIN,
+        grammar::PARAMETERS,
+        grammar::OF_FUNCTION,
         left - 1,
-        words::child_count(w) as u64,
-    )
+        1,
+    );
+    if a.fault != 0 {
+        return a;
+    }
+    records(ws, a.next, s, grammar::CODE, grammar::PLAIN, left - 1, 1)
 }
 
 fn class(ws: &[u32], at: usize, s: u32, context: u32, left: u32) -> Step
@@ -364,21 +339,10 @@ fn method(ws: &[u32], at: usize, s: u32, context: u32, left: u32) -> Step
 }
 
 fn other(ws: &[u32], at: usize, s: u32, category: u8, context: u32, left: u32) -> Step
-    requires { ⌜ Here s (now ws) at (place (slot category context) (maxDepth + 1 - left)) × Other category × (left ≤ maxDepth) ⌝ }
+    requires { ⌜ Here s (now ws) at (place (slot category context) (maxDepth + 1 - left)) × Other category × (left ≤ maxDepth) × Apart (now ws) at ⌝ }
     ensures { λ r. ⌜ Walked s (now (ws .entry)) (at + 1) (belowAt (place (slot category context) (maxDepth + 1 - left)) (getD (now (ws .entry)) at 0)) r ⌝ }
 {
     let n = words::payload_of(ws[at]) as u64;
-    if category == grammar::DECORATORS {
-        return records(
-            ws,
-            at + 1,
-            s,
-            grammar::EXPRESSION,
-            grammar::PLAIN,
-            left - 1,
-            n,
-        );
-    }
     if category == grammar::BODY {
         return records(ws, at + 1, s, grammar::ELEMENT, grammar::PLAIN, left - 1, n);
     }
@@ -411,25 +375,19 @@ fn other(ws: &[u32], at: usize, s: u32, category: u8, context: u32, left: u32) -
             n,
         );
     }
-    if category == grammar::MODULE {
-        let a = records(ws, at + 1, s, grammar::SYMBOLS, grammar::PLAIN, left - 1, 1);
-        if a.fault != 0 {
-            return a;
-        }
-        return records(
-            ws,
-            a.next,
-            s,
-            grammar::STATEMENT,
-            grammar::OWN_LIST,
-            left - 1,
-            n,
-        );
+    let a = records(ws, at + 1, s, grammar::SYMBOLS, grammar::PLAIN, left - 1, 1);
+    if a.fault != 0 {
+        return a;
     }
-    Step {
-        fault: 0,
-        next: at + 1,
-    }
+    records(
+        ws,
+        a.next,
+        s,
+        grammar::STATEMENT,
+        grammar::OWN_LIST,
+        left - 1,
+        n,
+    )
 }
 
 // The number of symbols that the second word says.

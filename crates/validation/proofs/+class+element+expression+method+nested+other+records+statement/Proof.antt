@@ -6,8 +6,8 @@ use lib.ListN.{replicate, getD}
 use borrow.Author.Needs.{needs}
 use borrow.Fn.Kinds.{In}
 use borrow.Fn.PlainCycle.{Measures, is, falls, and}
-use Rattle.validation.specs.Walks.{walked-end, walked-fault, walked-none, walked-stop, walked-then, walked-last, walked-as, here-depth, here-as, nested-as, plain, loop-done, loop-stop, loop-here, loop-depth, loop-stop-nested, loop-next-nested, loop-leaf, loop-stop-below, loop-next-below, loop-down, block-children, class-statement-children, class-expression-children, function-children, class-children, method-children, static-block-children, decorators-children, body-children, parameters-children, parameter-children, code-children, module-children, leaf-children, statement-children, expression-children, field-children}
-use Rattle.validation.specs.Walked.{Rest}
+use Rattle.validation.specs.Walks.{walked-end, walked-fault, walked-stop, walked-then, walked-last, walked-as, here-depth, here-as, nested-as, loop-done, loop-stop, loop-here, loop-depth, loop-stop-nested, loop-next-nested, loop-leaf, loop-stop-below, loop-next-below, loop-down, block-children, class-statement-children, class-expression-children, function-children, class-children, method-children, static-block-children, body-children, parameters-children, parameter-children, code-children, module-children, field-children}
+use Rattle.validation.specs.Walked.{plain, Rest}
 use Rattle.words.specs.Word.{kindOf, payloadOf, children-le, payload-lt}
 use Rattle.grammar.specs.Scan.{place}
 use Rattle.grammar.specs.Grammar.{slot}
@@ -128,7 +128,7 @@ abbrev element-uses : ℕ → element-lts.Claims
 element-uses t = (kind-of-reads.Asked, kind-of-reads.Learnt, method-below t, method.Post, payload-of-reads.Asked, payload-of-reads.Learnt, records-below t, records.Post)
 
 abbrev expression-uses : ℕ → expression-lts.Claims
-expression-uses t = (kind-of-reads.Asked, kind-of-reads.Learnt, records-below t, records.Post, child-count-reads.Asked, child-count-reads.Learnt)
+expression-uses t = (kind-of-reads.Asked, kind-of-reads.Learnt, records-below t, records.Post)
 
 abbrev method-uses : ℕ → method-lts.Claims
 method-uses t = (payload-of-reads.Asked, payload-of-reads.Learnt, records-below t, records.Post)
@@ -143,7 +143,7 @@ abbrev records-uses : ℕ → records-lts.Claims
 records-uses t = (fault-reads.Asked, fault-reads.Learnt, kind-bit-reads.Asked, kind-bit-reads.Learnt, nested-below t, nested.Post, child-count-reads.Asked, child-count-reads.Learnt, records-below t, records.Post)
 
 abbrev statement-uses : ℕ → statement-lts.Claims
-statement-uses t = (kind-of-reads.Asked, kind-of-reads.Learnt, payload-of-reads.Asked, payload-of-reads.Learnt, records-below t, records.Post, child-count-reads.Asked, child-count-reads.Learnt)
+statement-uses t = (kind-of-reads.Asked, kind-of-reads.Learnt, payload-of-reads.Asked, payload-of-reads.Learnt, records-below t, records.Post)
 
 class-mul-payload-of : (t : ℕ) → class-lts.Need-mul-payload-of (class-uses t) (class-at t) class.Post
 class-mul-payload-of t c = search needs
@@ -303,11 +303,11 @@ element-records-requires-4 t c κs =
 element-returns-5 : (t : ℕ) → element-lts.Need-returns-5 (element-uses t) (element-at t) element.Post
 element-returns-5 t c = walked-as (field-children 9 (c .before .before .before .before .before .before .before .before .before .before .before .before .before .args .context) (c .before .before .before .before .before .before .before .before .before .before .before .before .before .args .left) (c .before .before .before .before .before .before .before .before .before .before .before .before .before .pre .1 .0) (c .before .before .before .before .before .before .before .before .before .before .before .before .before .pre .1 .1) (c .before .before .before .before .before .before .before .before .payload-of .ensures) refl (λ e. c .before .before .before .before .before .before .before .before .before .if1 .left (c .before .before .before .before .before .before .before .before .before .before .kind-of .ensures ∙ e)) (λ e. c .before .before .before .before .before .before .before .if2 .left (c .before .before .before .before .before .before .before .before .before .before .kind-of .ensures ∙ e))) (walked-then _ _ (c .before .before .before .before .before .before .records2 .ensures) (c .before .before .before .before .if3 .left) (walked-then _ _ (c .before .before .before .records3 .ensures) (c .before .if4 .left) (c .records4 .ensures)))
 
-expression-mul-w : (t : ℕ) → expression-lts.Need-mul-w (expression-uses t) (expression-at t) expression.Post
-expression-mul-w t c = search needs
+expression-mul-kind-of : (t : ℕ) → expression-lts.Need-mul-kind-of (expression-uses t) (expression-at t) expression.Post
+expression-mul-kind-of t c = search needs
 
-expression-shared-slice-read-w : (t : ℕ) → expression-lts.Need-shared-slice-read-w (expression-uses t) (expression-at t) expression.Post
-expression-shared-slice-read-w t c = omega (arith, c .before .before .pre .1 .0 .inside)
+expression-shared-slice-read-kind-of : (t : ℕ) → expression-lts.Need-shared-slice-read-kind-of (expression-uses t) (expression-at t) expression.Post
+expression-shared-slice-read-kind-of t c = omega (arith, c .before .before .pre .1 .0 .inside)
 
 expression-kind-of-requires : (t : ℕ) → expression-lts.Need-kind-of-requires (expression-uses t) (expression-at t) expression.Post
 expression-kind-of-requires t c κs = search needs
@@ -332,58 +332,34 @@ expression-returns t c = walked-as (class-expression-children 4 (c .before .befo
 
 expression-add-records-2 : (t : ℕ) → expression-lts.Need-add-records-2 (expression-uses t) (expression-at t) expression.Post
 expression-add-records-2 t c =
-    let d = here-depth 4 (c .before .before .before .before .before .args .context) (maxDepth + 1 - c .before .before .before .before .before .args .left) (c .before .before .before .before .before .pre .1 .0) in
-    omega (arith, c .before .before .before .before .before .pre .1 .0 .inside)
+    let d = here-depth 4 (c .before .before .before .before .args .context) (maxDepth + 1 - c .before .before .before .before .args .left) (c .before .before .before .before .pre .1 .0) in
+    omega (arith, c .before .before .before .before .pre .1 .0 .inside)
 
 expression-sub-records-2 : (t : ℕ) → expression-lts.Need-sub-records-2 (expression-uses t) (expression-at t) expression.Post
 expression-sub-records-2 t c =
-    let d = here-depth 4 (c .before .before .before .before .before .args .context) (maxDepth + 1 - c .before .before .before .before .before .args .left) (c .before .before .before .before .before .pre .1 .0) in
-    omega (arith, c .before .before .before .before .before .pre .1 .0 .inside)
+    let d = here-depth 4 (c .before .before .before .before .args .context) (maxDepth + 1 - c .before .before .before .before .args .left) (c .before .before .before .before .pre .1 .0) in
+    omega (arith, c .before .before .before .before .pre .1 .0 .inside)
 
 expression-records-requires-2 : (t : ℕ) → expression-lts.Need-records-requires-2 (expression-uses t) (expression-at t) expression.Post
 expression-records-requires-2 t c κs =
-    let d = here-depth 4 (c .before .before .before .before .before .args .context) (maxDepth + 1 - c .before .before .before .before .before .args .left) (c .before .before .before .before .before .pre .1 .0) in
-    (omega (arith, c .before .before .before .before .before .pre .0), omega (arith, c .before .before .before .before .before .pre .1 .1))
+    let d = here-depth 4 (c .before .before .before .before .args .context) (maxDepth + 1 - c .before .before .before .before .args .left) (c .before .before .before .before .pre .1 .0) in
+    (omega (arith, c .before .before .before .before .pre .0), omega (arith, c .before .before .before .before .pre .1 .1))
 
 expression-returns-2 : (t : ℕ) → expression-lts.Need-returns-2 (expression-uses t) (expression-at t) expression.Post
-expression-returns-2 t c = walked-as (function-children 4 (c .before .before .before .before .before .before .before .before .args .context) (c .before .before .before .before .before .before .before .before .args .left) (c .before .before .before .before .before .before .before .before .pre .1 .0) (c .before .before .before .before .before .before .before .before .pre .1 .1) refl (sym (c .before .before .before .before .before .kind-of .ensures) ∙ c .before .before .before .if2 .taken)) (walked-stop _ _ (c .before .before .records2 .ensures) (c .if3 .taken))
+expression-returns-2 t c = walked-as (function-children 4 (c .before .before .before .before .before .before .before .args .context) (c .before .before .before .before .before .before .before .args .left) (c .before .before .before .before .before .before .before .pre .1 .0) (c .before .before .before .before .before .before .before .pre .1 .1) refl (c .before .before .before .before .before .before .before .pre .1 .2) refl (λ e. c .before .before .before .if1 .left (c .before .before .before .before .kind-of .ensures ∙ e))) (walked-stop _ _ (c .before .before .records2 .ensures) (c .if2 .taken))
 
 expression-sub-records-3 : (t : ℕ) → expression-lts.Need-sub-records-3 (expression-uses t) (expression-at t) expression.Post
 expression-sub-records-3 t c =
-    let d = here-depth 4 (c .before .before .before .before .before .before .before .before .args .context) (maxDepth + 1 - c .before .before .before .before .before .before .before .before .args .left) (c .before .before .before .before .before .before .before .before .pre .1 .0) in
-    omega (arith, c .before .before .before .before .before .before .before .before .pre .1 .0 .inside)
+    let d = here-depth 4 (c .before .before .before .before .before .before .before .args .context) (maxDepth + 1 - c .before .before .before .before .before .before .before .args .left) (c .before .before .before .before .before .before .before .pre .1 .0) in
+    omega (arith, c .before .before .before .before .before .before .before .pre .1 .0 .inside)
 
 expression-records-requires-3 : (t : ℕ) → expression-lts.Need-records-requires-3 (expression-uses t) (expression-at t) expression.Post
 expression-records-requires-3 t c κs =
-    let d = here-depth 4 (c .before .before .before .before .before .before .before .before .args .context) (maxDepth + 1 - c .before .before .before .before .before .before .before .before .args .left) (c .before .before .before .before .before .before .before .before .pre .1 .0) in
-    (omega (arith, c .before .before .before .before .before .before .before .before .pre .0), omega (arith, c .before .before .before .before .before .before .before .before .pre .1 .1))
+    let d = here-depth 4 (c .before .before .before .before .before .before .before .args .context) (maxDepth + 1 - c .before .before .before .before .before .before .before .args .left) (c .before .before .before .before .before .before .before .pre .1 .0) in
+    (omega (arith, c .before .before .before .before .before .before .before .pre .0), omega (arith, c .before .before .before .before .before .before .before .pre .1 .1))
 
 expression-returns-3 : (t : ℕ) → expression-lts.Need-returns-3 (expression-uses t) (expression-at t) expression.Post
-expression-returns-3 t c = walked-as (function-children 4 (c .before .before .before .before .before .before .before .before .before .args .context) (c .before .before .before .before .before .before .before .before .before .args .left) (c .before .before .before .before .before .before .before .before .before .pre .1 .0) (c .before .before .before .before .before .before .before .before .before .pre .1 .1) refl (sym (c .before .before .before .before .before .before .kind-of .ensures) ∙ c .before .before .before .before .if2 .taken)) (walked-then _ _ (c .before .before .before .records2 .ensures) (c .before .if3 .left) (walked-last (c .records3 .ensures)))
-
-expression-add-records-3 : (t : ℕ) → expression-lts.Need-add-records-3 (expression-uses t) (expression-at t) expression.Post
-expression-add-records-3 t c =
-    let d = here-depth 4 (c .before .before .before .before .before .args .context) (maxDepth + 1 - c .before .before .before .before .before .args .left) (c .before .before .before .before .before .pre .1 .0) in
-    omega (arith, c .before .before .before .before .before .pre .1 .0 .inside)
-
-expression-sub-records-4 : (t : ℕ) → expression-lts.Need-sub-records-4 (expression-uses t) (expression-at t) expression.Post
-expression-sub-records-4 t c =
-    let d = here-depth 4 (c .before .before .before .before .before .args .context) (maxDepth + 1 - c .before .before .before .before .before .args .left) (c .before .before .before .before .before .pre .1 .0) in
-    omega (arith, c .before .before .before .before .before .pre .1 .0 .inside)
-
-expression-child-count-requires : (t : ℕ) → expression-lts.Need-child-count-requires (expression-uses t) (expression-at t) expression.Post
-expression-child-count-requires t c κs = search needs
-
-expression-cast-records : (t : ℕ) → expression-lts.Need-cast-records (expression-uses t) (expression-at t) expression.Post
-expression-cast-records t c = search needs
-
-expression-records-requires-4 : (t : ℕ) → expression-lts.Need-records-requires-4 (expression-uses t) (expression-at t) expression.Post
-expression-records-requires-4 t c κs =
-    let d = here-depth 4 (c .before .before .before .before .before .before .args .context) (maxDepth + 1 - c .before .before .before .before .before .before .args .left) (c .before .before .before .before .before .before .pre .1 .0) in
-    (omega (arith, c .before .before .before .before .before .before .pre .0), omega (arith, c .before .before .before .before .before .before .pre .1 .1))
-
-expression-returns-4 : (t : ℕ) → expression-lts.Need-returns-4 (expression-uses t) (expression-at t) expression.Post
-expression-returns-4 t c = walked-as (expression-children 4 (c .before .before .before .before .before .before .before .args .context) (c .before .before .before .before .before .before .before .args .left) (c .before .before .before .before .before .before .before .pre .1 .0) (c .before .before .before .before .before .before .before .pre .1 .1) refl _ (c .before .child-count .ensures) refl (λ e. c .before .before .before .if1 .left (c .before .before .before .before .kind-of .ensures ∙ e)) (λ e. c .before .before .if2 .left (c .before .before .before .before .kind-of .ensures ∙ e))) (c .records4 .ensures)
+expression-returns-3 t c = walked-as (function-children 4 (c .before .before .before .before .before .before .before .before .args .context) (c .before .before .before .before .before .before .before .before .args .left) (c .before .before .before .before .before .before .before .before .pre .1 .0) (c .before .before .before .before .before .before .before .before .pre .1 .1) refl (c .before .before .before .before .before .before .before .before .pre .1 .2) refl (λ e. c .before .before .before .before .if1 .left (c .before .before .before .before .before .kind-of .ensures ∙ e))) (walked-then _ _ (c .before .before .before .records2 .ensures) (c .before .if2 .left) (walked-last (c .records3 .ensures)))
 
 method-mul-payload-of : (t : ℕ) → method-lts.Need-mul-payload-of (method-uses t) (method-at t) method.Post
 method-mul-payload-of t c = search needs
@@ -455,13 +431,13 @@ method-returns-4 : (t : ℕ) → method-lts.Need-returns-4 (method-uses t) (meth
 method-returns-4 t c = walked-as (method-children 9 (c .before .before .before .before .before .before .before .before .before .before .before .before .before .args .context) (c .before .before .before .before .before .before .before .before .before .before .before .before .before .args .left) (c .before .before .before .before .before .before .before .before .before .before .before .before .before .pre .1 .0) (c .before .before .before .before .before .before .before .before .before .before .before .before .before .pre .1 .2) (c .before .before .before .before .before .before .before .before .before .before .payload-of .ensures) (c .before .before .before .before .before .before .before .before .before .before .before .before .before .pre .1 .1)) (walked-then _ _ (c .before .before .before .before .before .before .before .before .before .records .ensures) (c .before .before .before .before .before .before .before .if1 .left) (walked-then _ _ (c .before .before .before .before .before .before .records2 .ensures) (c .before .before .before .before .if2 .left) (walked-then _ _ (c .before .before .before .records3 .ensures) (c .before .if3 .left) (walked-last (c .records4 .ensures)))))
 
 nested-statement-requires : (t : ℕ) → nested-lts.Need-statement-requires (nested-uses t) (nested-at t) nested.Post
-nested-statement-requires t c κs = (omega (arith, c .before .before .pre .0), (here-as (c .before .before .args .at) (c .before .before .args .category) (c .before .before .args .context) (maxDepth + 1 - c .before .before .args .left) 3 (c .if1 .taken) (c .before .before .pre .1 .0), c .before .before .pre .1 .1))
+nested-statement-requires t c κs = (omega (arith, c .before .before .pre .0), (here-as (c .before .before .args .at) (c .before .before .args .category) (c .before .before .args .context) (maxDepth + 1 - c .before .before .args .left) 3 (c .if1 .taken) (c .before .before .pre .1 .0), c .before .before .pre .1 .1, c .before .before .pre .1 .2))
 
 nested-returns : (t : ℕ) → nested-lts.Need-returns (nested-uses t) (nested-at t) nested.Post
 nested-returns t c = nested-as (c .before .before .before .args .at) (c .before .before .before .args .category) (c .before .before .before .args .context) (maxDepth + 1 - c .before .before .before .args .left) 3 (c .before .if1 .taken) (c .statement .ensures)
 
 nested-expression-requires : (t : ℕ) → nested-lts.Need-expression-requires (nested-uses t) (nested-at t) nested.Post
-nested-expression-requires t c κs = (omega (arith, c .before .before .before .pre .0), (here-as (c .before .before .before .args .at) (c .before .before .before .args .category) (c .before .before .before .args .context) (maxDepth + 1 - c .before .before .before .args .left) 4 (c .if2 .taken) (c .before .before .before .pre .1 .0), c .before .before .before .pre .1 .1))
+nested-expression-requires t c κs = (omega (arith, c .before .before .before .pre .0), (here-as (c .before .before .before .args .at) (c .before .before .before .args .category) (c .before .before .before .args .context) (maxDepth + 1 - c .before .before .before .args .left) 4 (c .if2 .taken) (c .before .before .before .pre .1 .0), c .before .before .before .pre .1 .1, c .before .before .before .pre .1 .2))
 
 nested-returns-2 : (t : ℕ) → nested-lts.Need-returns-2 (nested-uses t) (nested-at t) nested.Post
 nested-returns-2 t c = nested-as (c .before .before .before .before .args .at) (c .before .before .before .before .args .category) (c .before .before .before .before .args .context) (maxDepth + 1 - c .before .before .before .before .args .left) 4 (c .before .if2 .taken) (c .expression .ensures)
@@ -479,7 +455,7 @@ nested-returns-4 : (t : ℕ) → nested-lts.Need-returns-4 (nested-uses t) (nest
 nested-returns-4 t c = nested-as (c .before .before .before .before .before .before .args .at) (c .before .before .before .before .before .before .args .category) (c .before .before .before .before .before .before .args .context) (maxDepth + 1 - c .before .before .before .before .before .before .args .left) 9 (c .before .if4 .taken) (c .element .ensures)
 
 nested-other-requires : (t : ℕ) → nested-lts.Need-other-requires (nested-uses t) (nested-at t) nested.Post
-nested-other-requires t c κs = (omega (arith, c .before .before .before .before .before .pre .0), (c .before .before .before .before .before .pre .1 .0, record { statement = c .before .before .before .if1 .left; expression = c .before .before .if2 .left; class = c .before .if3 .left; element = c .if4 .left }, c .before .before .before .before .before .pre .1 .1))
+nested-other-requires t c κs = (omega (arith, c .before .before .before .before .before .pre .0), (c .before .before .before .before .before .pre .1 .0, record { statement = c .before .before .before .if1 .left; expression = c .before .before .if2 .left; class = c .before .if3 .left; element = c .if4 .left }, c .before .before .before .before .before .pre .1 .1, c .before .before .before .before .before .pre .1 .2))
 
 nested-returns-5 : (t : ℕ) → nested-lts.Need-returns-5 (nested-uses t) (nested-at t) nested.Post
 nested-returns-5 t c = c .other .ensures
@@ -512,7 +488,7 @@ other-records-requires t c κs =
     (omega (arith, c .before .before .before .before .pre .0), omega (arith, c .before .before .before .before .pre .1 .2))
 
 other-returns : (t : ℕ) → other-lts.Need-returns (other-uses t) (other-at t) other.Post
-other-returns t c = walked-as (decorators-children (c .before .before .before .before .before .args .category) (c .before .before .before .before .before .args .context) (c .before .before .before .before .before .args .left) (c .before .before .before .before .before .pre .1 .0) (c .before .before .before .before .before .pre .1 .2) (c .before .before .payload-of .ensures) (c .before .if1 .taken)) (walked-last (c .records .ensures))
+other-returns t c = walked-as (body-children (c .before .before .before .before .before .args .category) (c .before .before .before .before .before .args .context) (c .before .before .before .before .before .args .left) (c .before .before .before .before .before .pre .1 .0) (c .before .before .before .before .before .pre .1 .2) (c .before .before .payload-of .ensures) (c .before .if1 .taken)) (walked-last (c .records .ensures))
 
 other-add-records-2 : (t : ℕ) → other-lts.Need-add-records-2 (other-uses t) (other-at t) other.Post
 other-add-records-2 t c =
@@ -530,7 +506,7 @@ other-records-requires-2 t c κs =
     (omega (arith, c .before .before .before .before .before .pre .0), omega (arith, c .before .before .before .before .before .pre .1 .2))
 
 other-returns-2 : (t : ℕ) → other-lts.Need-returns-2 (other-uses t) (other-at t) other.Post
-other-returns-2 t c = walked-as (body-children (c .before .before .before .before .before .before .args .category) (c .before .before .before .before .before .before .args .context) (c .before .before .before .before .before .before .args .left) (c .before .before .before .before .before .before .pre .1 .0) (c .before .before .before .before .before .before .pre .1 .2) (c .before .before .before .payload-of .ensures) (c .before .if2 .taken)) (walked-last (c .records2 .ensures))
+other-returns-2 t c = walked-as (parameters-children (c .before .before .before .before .before .before .args .category) (c .before .before .before .before .before .before .args .context) (c .before .before .before .before .before .before .args .left) (c .before .before .before .before .before .before .pre .1 .0) (c .before .before .before .before .before .before .pre .1 .2) (c .before .before .before .payload-of .ensures) (c .before .if2 .taken)) (walked-last (c .records2 .ensures))
 
 other-add-records-3 : (t : ℕ) → other-lts.Need-add-records-3 (other-uses t) (other-at t) other.Post
 other-add-records-3 t c =
@@ -548,93 +524,69 @@ other-records-requires-3 t c κs =
     (omega (arith, c .before .before .before .before .before .before .pre .0), omega (arith, c .before .before .before .before .before .before .pre .1 .2))
 
 other-returns-3 : (t : ℕ) → other-lts.Need-returns-3 (other-uses t) (other-at t) other.Post
-other-returns-3 t c = walked-as (parameters-children (c .before .before .before .before .before .before .before .args .category) (c .before .before .before .before .before .before .before .args .context) (c .before .before .before .before .before .before .before .args .left) (c .before .before .before .before .before .before .before .pre .1 .0) (c .before .before .before .before .before .before .before .pre .1 .2) (c .before .before .before .before .payload-of .ensures) (c .before .if3 .taken)) (walked-last (c .records3 .ensures))
+other-returns-3 t c = walked-as (parameter-children (c .before .before .before .before .before .before .before .before .before .args .category) (c .before .before .before .before .before .before .before .before .before .args .context) (c .before .before .before .before .before .before .before .before .before .args .left) (c .before .before .before .before .before .before .before .before .before .pre .1 .0) (c .before .before .before .before .before .before .before .before .before .pre .1 .2) (c .before .before .before .before .before .before .payload-of .ensures) (c .before .before .before .if3 .taken)) (walked-stop _ _ (c .before .before .records3 .ensures) (c .if4 .taken))
+
+other-sub-records-4 : (t : ℕ) → other-lts.Need-sub-records-4 (other-uses t) (other-at t) other.Post
+other-sub-records-4 t c =
+    let d = here-depth (c .before .before .before .before .before .before .before .before .before .args .category) (c .before .before .before .before .before .before .before .before .before .args .context) (maxDepth + 1 - c .before .before .before .before .before .before .before .before .before .args .left) (c .before .before .before .before .before .before .before .before .before .pre .1 .0) in
+    omega (arith, c .before .before .before .before .before .before .before .before .before .pre .1 .0 .inside)
+
+other-records-requires-4 : (t : ℕ) → other-lts.Need-records-requires-4 (other-uses t) (other-at t) other.Post
+other-records-requires-4 t c κs =
+    let d = here-depth (c .before .before .before .before .before .before .before .before .before .args .category) (c .before .before .before .before .before .before .before .before .before .args .context) (maxDepth + 1 - c .before .before .before .before .before .before .before .before .before .args .left) (c .before .before .before .before .before .before .before .before .before .pre .1 .0) in
+    (omega (arith, c .before .before .before .before .before .before .before .before .before .pre .0), omega (arith, c .before .before .before .before .before .before .before .before .before .pre .1 .2))
+
+other-returns-4 : (t : ℕ) → other-lts.Need-returns-4 (other-uses t) (other-at t) other.Post
+other-returns-4 t c = walked-as (parameter-children (c .before .before .before .before .before .before .before .before .before .before .args .category) (c .before .before .before .before .before .before .before .before .before .before .args .context) (c .before .before .before .before .before .before .before .before .before .before .args .left) (c .before .before .before .before .before .before .before .before .before .before .pre .1 .0) (c .before .before .before .before .before .before .before .before .before .before .pre .1 .2) (c .before .before .before .before .before .before .before .payload-of .ensures) (c .before .before .before .before .if3 .taken)) (walked-then _ _ (c .before .before .before .records3 .ensures) (c .before .if4 .left) (walked-last (c .records4 .ensures)))
 
 other-add-records-4 : (t : ℕ) → other-lts.Need-add-records-4 (other-uses t) (other-at t) other.Post
 other-add-records-4 t c =
     let d = here-depth (c .before .before .before .before .before .before .before .args .category) (c .before .before .before .before .before .before .before .args .context) (maxDepth + 1 - c .before .before .before .before .before .before .before .args .left) (c .before .before .before .before .before .before .before .pre .1 .0) in
     omega (arith, c .before .before .before .before .before .before .before .pre .1 .0 .inside)
 
-other-sub-records-4 : (t : ℕ) → other-lts.Need-sub-records-4 (other-uses t) (other-at t) other.Post
-other-sub-records-4 t c =
+other-sub-records-5 : (t : ℕ) → other-lts.Need-sub-records-5 (other-uses t) (other-at t) other.Post
+other-sub-records-5 t c =
     let d = here-depth (c .before .before .before .before .before .before .before .args .category) (c .before .before .before .before .before .before .before .args .context) (maxDepth + 1 - c .before .before .before .before .before .before .before .args .left) (c .before .before .before .before .before .before .before .pre .1 .0) in
     omega (arith, c .before .before .before .before .before .before .before .pre .1 .0 .inside)
 
-other-records-requires-4 : (t : ℕ) → other-lts.Need-records-requires-4 (other-uses t) (other-at t) other.Post
-other-records-requires-4 t c κs =
+other-records-requires-5 : (t : ℕ) → other-lts.Need-records-requires-5 (other-uses t) (other-at t) other.Post
+other-records-requires-5 t c κs =
     let d = here-depth (c .before .before .before .before .before .before .before .args .category) (c .before .before .before .before .before .before .before .args .context) (maxDepth + 1 - c .before .before .before .before .before .before .before .args .left) (c .before .before .before .before .before .before .before .pre .1 .0) in
     (omega (arith, c .before .before .before .before .before .before .before .pre .0), omega (arith, c .before .before .before .before .before .before .before .pre .1 .2))
 
-other-returns-4 : (t : ℕ) → other-lts.Need-returns-4 (other-uses t) (other-at t) other.Post
-other-returns-4 t c = walked-as (parameter-children (c .before .before .before .before .before .before .before .before .before .before .args .category) (c .before .before .before .before .before .before .before .before .before .before .args .context) (c .before .before .before .before .before .before .before .before .before .before .args .left) (c .before .before .before .before .before .before .before .before .before .before .pre .1 .0) (c .before .before .before .before .before .before .before .before .before .before .pre .1 .2) (c .before .before .before .before .before .before .before .payload-of .ensures) (c .before .before .before .if4 .taken)) (walked-stop _ _ (c .before .before .records4 .ensures) (c .if5 .taken))
-
-other-sub-records-5 : (t : ℕ) → other-lts.Need-sub-records-5 (other-uses t) (other-at t) other.Post
-other-sub-records-5 t c =
-    let d = here-depth (c .before .before .before .before .before .before .before .before .before .before .args .category) (c .before .before .before .before .before .before .before .before .before .before .args .context) (maxDepth + 1 - c .before .before .before .before .before .before .before .before .before .before .args .left) (c .before .before .before .before .before .before .before .before .before .before .pre .1 .0) in
-    omega (arith, c .before .before .before .before .before .before .before .before .before .before .pre .1 .0 .inside)
-
-other-records-requires-5 : (t : ℕ) → other-lts.Need-records-requires-5 (other-uses t) (other-at t) other.Post
-other-records-requires-5 t c κs =
-    let d = here-depth (c .before .before .before .before .before .before .before .before .before .before .args .category) (c .before .before .before .before .before .before .before .before .before .before .args .context) (maxDepth + 1 - c .before .before .before .before .before .before .before .before .before .before .args .left) (c .before .before .before .before .before .before .before .before .before .before .pre .1 .0) in
-    (omega (arith, c .before .before .before .before .before .before .before .before .before .before .pre .0), omega (arith, c .before .before .before .before .before .before .before .before .before .before .pre .1 .2))
-
 other-returns-5 : (t : ℕ) → other-lts.Need-returns-5 (other-uses t) (other-at t) other.Post
-other-returns-5 t c = walked-as (parameter-children (c .before .before .before .before .before .before .before .before .before .before .before .args .category) (c .before .before .before .before .before .before .before .before .before .before .before .args .context) (c .before .before .before .before .before .before .before .before .before .before .before .args .left) (c .before .before .before .before .before .before .before .before .before .before .before .pre .1 .0) (c .before .before .before .before .before .before .before .before .before .before .before .pre .1 .2) (c .before .before .before .before .before .before .before .before .payload-of .ensures) (c .before .before .before .before .if4 .taken)) (walked-then _ _ (c .before .before .before .records4 .ensures) (c .before .if5 .left) (walked-last (c .records5 .ensures)))
+other-returns-5 t c = walked-as (code-children (c .before .before .before .before .before .before .before .before .args .category) (c .before .before .before .before .before .before .before .before .args .context) (c .before .before .before .before .before .before .before .before .args .left) (c .before .before .before .before .before .before .before .before .pre .1 .0) (c .before .before .before .before .before .before .before .before .pre .1 .2) (c .before .before .before .before .before .payload-of .ensures) (c .before .if5 .taken)) (walked-last (c .records5 .ensures))
 
 other-add-records-5 : (t : ℕ) → other-lts.Need-add-records-5 (other-uses t) (other-at t) other.Post
 other-add-records-5 t c =
-    let d = here-depth (c .before .before .before .before .before .before .before .before .args .category) (c .before .before .before .before .before .before .before .before .args .context) (maxDepth + 1 - c .before .before .before .before .before .before .before .before .args .left) (c .before .before .before .before .before .before .before .before .pre .1 .0) in
-    omega (arith, c .before .before .before .before .before .before .before .before .pre .1 .0 .inside)
+    let d = here-depth (c .before .before .before .before .before .before .before .args .category) (c .before .before .before .before .before .before .before .args .context) (maxDepth + 1 - c .before .before .before .before .before .before .before .args .left) (c .before .before .before .before .before .before .before .pre .1 .0) in
+    omega (arith, c .before .before .before .before .before .before .before .pre .1 .0 .inside)
 
 other-sub-records-6 : (t : ℕ) → other-lts.Need-sub-records-6 (other-uses t) (other-at t) other.Post
 other-sub-records-6 t c =
-    let d = here-depth (c .before .before .before .before .before .before .before .before .args .category) (c .before .before .before .before .before .before .before .before .args .context) (maxDepth + 1 - c .before .before .before .before .before .before .before .before .args .left) (c .before .before .before .before .before .before .before .before .pre .1 .0) in
-    omega (arith, c .before .before .before .before .before .before .before .before .pre .1 .0 .inside)
+    let d = here-depth (c .before .before .before .before .before .before .before .args .category) (c .before .before .before .before .before .before .before .args .context) (maxDepth + 1 - c .before .before .before .before .before .before .before .args .left) (c .before .before .before .before .before .before .before .pre .1 .0) in
+    omega (arith, c .before .before .before .before .before .before .before .pre .1 .0 .inside)
 
 other-records-requires-6 : (t : ℕ) → other-lts.Need-records-requires-6 (other-uses t) (other-at t) other.Post
 other-records-requires-6 t c κs =
-    let d = here-depth (c .before .before .before .before .before .before .before .before .args .category) (c .before .before .before .before .before .before .before .before .args .context) (maxDepth + 1 - c .before .before .before .before .before .before .before .before .args .left) (c .before .before .before .before .before .before .before .before .pre .1 .0) in
-    (omega (arith, c .before .before .before .before .before .before .before .before .pre .0), omega (arith, c .before .before .before .before .before .before .before .before .pre .1 .2))
+    let d = here-depth (c .before .before .before .before .before .before .before .args .category) (c .before .before .before .before .before .before .before .args .context) (maxDepth + 1 - c .before .before .before .before .before .before .before .args .left) (c .before .before .before .before .before .before .before .pre .1 .0) in
+    (omega (arith, c .before .before .before .before .before .before .before .pre .0), omega (arith, c .before .before .before .before .before .before .before .pre .1 .2))
 
 other-returns-6 : (t : ℕ) → other-lts.Need-returns-6 (other-uses t) (other-at t) other.Post
-other-returns-6 t c = walked-as (code-children (c .before .before .before .before .before .before .before .before .before .args .category) (c .before .before .before .before .before .before .before .before .before .args .context) (c .before .before .before .before .before .before .before .before .before .args .left) (c .before .before .before .before .before .before .before .before .before .pre .1 .0) (c .before .before .before .before .before .before .before .before .before .pre .1 .2) (c .before .before .before .before .before .before .payload-of .ensures) (c .before .if6 .taken)) (walked-last (c .records6 .ensures))
-
-other-add-records-6 : (t : ℕ) → other-lts.Need-add-records-6 (other-uses t) (other-at t) other.Post
-other-add-records-6 t c =
-    let d = here-depth (c .before .before .before .before .before .before .before .before .before .args .category) (c .before .before .before .before .before .before .before .before .before .args .context) (maxDepth + 1 - c .before .before .before .before .before .before .before .before .before .args .left) (c .before .before .before .before .before .before .before .before .before .pre .1 .0) in
-    omega (arith, c .before .before .before .before .before .before .before .before .before .pre .1 .0 .inside)
+other-returns-6 t c = walked-as (module-children (c .before .before .before .before .before .before .before .before .before .before .args .category) (c .before .before .before .before .before .before .before .before .before .before .args .context) (c .before .before .before .before .before .before .before .before .before .before .args .left) (c .before .before .before .before .before .before .before .before .before .before .pre .1 .0) (c .before .before .before .before .before .before .before .before .before .before .pre .1 .2) (c .before .before .before .before .before .before .before .payload-of .ensures) (c .before .before .before .before .before .before .before .before .before .before .pre .1 .3) (c .before .before .before .before .before .before .before .before .before .before .pre .1 .1) (c .before .before .before .before .before .before .if1 .left) (c .before .before .before .before .before .if2 .left) (c .before .before .before .before .if3 .left) (c .before .before .before .if5 .left)) (walked-stop _ _ (c .before .before .records6 .ensures) (c .if6 .taken))
 
 other-sub-records-7 : (t : ℕ) → other-lts.Need-sub-records-7 (other-uses t) (other-at t) other.Post
 other-sub-records-7 t c =
-    let d = here-depth (c .before .before .before .before .before .before .before .before .before .args .category) (c .before .before .before .before .before .before .before .before .before .args .context) (maxDepth + 1 - c .before .before .before .before .before .before .before .before .before .args .left) (c .before .before .before .before .before .before .before .before .before .pre .1 .0) in
-    omega (arith, c .before .before .before .before .before .before .before .before .before .pre .1 .0 .inside)
+    let d = here-depth (c .before .before .before .before .before .before .before .before .before .before .args .category) (c .before .before .before .before .before .before .before .before .before .before .args .context) (maxDepth + 1 - c .before .before .before .before .before .before .before .before .before .before .args .left) (c .before .before .before .before .before .before .before .before .before .before .pre .1 .0) in
+    omega (arith, c .before .before .before .before .before .before .before .before .before .before .pre .1 .0 .inside)
 
 other-records-requires-7 : (t : ℕ) → other-lts.Need-records-requires-7 (other-uses t) (other-at t) other.Post
 other-records-requires-7 t c κs =
-    let d = here-depth (c .before .before .before .before .before .before .before .before .before .args .category) (c .before .before .before .before .before .before .before .before .before .args .context) (maxDepth + 1 - c .before .before .before .before .before .before .before .before .before .args .left) (c .before .before .before .before .before .before .before .before .before .pre .1 .0) in
-    (omega (arith, c .before .before .before .before .before .before .before .before .before .pre .0), omega (arith, c .before .before .before .before .before .before .before .before .before .pre .1 .2))
+    let d = here-depth (c .before .before .before .before .before .before .before .before .before .before .args .category) (c .before .before .before .before .before .before .before .before .before .before .args .context) (maxDepth + 1 - c .before .before .before .before .before .before .before .before .before .before .args .left) (c .before .before .before .before .before .before .before .before .before .before .pre .1 .0) in
+    (omega (arith, c .before .before .before .before .before .before .before .before .before .before .pre .0), omega (arith, c .before .before .before .before .before .before .before .before .before .before .pre .1 .2))
 
 other-returns-7 : (t : ℕ) → other-lts.Need-returns-7 (other-uses t) (other-at t) other.Post
-other-returns-7 t c = walked-as (module-children (c .before .before .before .before .before .before .before .before .before .before .before .before .args .category) (c .before .before .before .before .before .before .before .before .before .before .before .before .args .context) (c .before .before .before .before .before .before .before .before .before .before .before .before .args .left) (c .before .before .before .before .before .before .before .before .before .before .before .before .pre .1 .0) (c .before .before .before .before .before .before .before .before .before .before .before .before .pre .1 .2) (c .before .before .before .before .before .before .before .before .before .payload-of .ensures) (c .before .before .before .if7 .taken)) (walked-stop _ _ (c .before .before .records7 .ensures) (c .if8 .taken))
-
-other-sub-records-8 : (t : ℕ) → other-lts.Need-sub-records-8 (other-uses t) (other-at t) other.Post
-other-sub-records-8 t c =
-    let d = here-depth (c .before .before .before .before .before .before .before .before .before .before .before .before .args .category) (c .before .before .before .before .before .before .before .before .before .before .before .before .args .context) (maxDepth + 1 - c .before .before .before .before .before .before .before .before .before .before .before .before .args .left) (c .before .before .before .before .before .before .before .before .before .before .before .before .pre .1 .0) in
-    omega (arith, c .before .before .before .before .before .before .before .before .before .before .before .before .pre .1 .0 .inside)
-
-other-records-requires-8 : (t : ℕ) → other-lts.Need-records-requires-8 (other-uses t) (other-at t) other.Post
-other-records-requires-8 t c κs =
-    let d = here-depth (c .before .before .before .before .before .before .before .before .before .before .before .before .args .category) (c .before .before .before .before .before .before .before .before .before .before .before .before .args .context) (maxDepth + 1 - c .before .before .before .before .before .before .before .before .before .before .before .before .args .left) (c .before .before .before .before .before .before .before .before .before .before .before .before .pre .1 .0) in
-    (omega (arith, c .before .before .before .before .before .before .before .before .before .before .before .before .pre .0), omega (arith, c .before .before .before .before .before .before .before .before .before .before .before .before .pre .1 .2))
-
-other-returns-8 : (t : ℕ) → other-lts.Need-returns-8 (other-uses t) (other-at t) other.Post
-other-returns-8 t c = walked-as (module-children (c .before .before .before .before .before .before .before .before .before .before .before .before .before .args .category) (c .before .before .before .before .before .before .before .before .before .before .before .before .before .args .context) (c .before .before .before .before .before .before .before .before .before .before .before .before .before .args .left) (c .before .before .before .before .before .before .before .before .before .before .before .before .before .pre .1 .0) (c .before .before .before .before .before .before .before .before .before .before .before .before .before .pre .1 .2) (c .before .before .before .before .before .before .before .before .before .before .payload-of .ensures) (c .before .before .before .before .if7 .taken)) (walked-then _ _ (c .before .before .before .records7 .ensures) (c .before .if8 .left) (walked-last (c .records8 .ensures)))
-
-other-add-t11 : (t : ℕ) → other-lts.Need-add-t11 (other-uses t) (other-at t) other.Post
-other-add-t11 t c = search needs
-
-other-returns-9 : (t : ℕ) → other-lts.Need-returns-9 (other-uses t) (other-at t) other.Post
-other-returns-9 t c = walked-as (leaf-children (c .before .before .before .before .before .before .before .before .before .args .category) (c .before .before .before .before .before .before .before .before .before .args .context) (c .before .before .before .before .before .before .before .before .before .args .left) (c .before .before .before .before .before .before .before .before .before .pre .1 .0) (c .before .before .before .before .before .before .before .before .before .pre .1 .2) (c .before .before .before .before .before .before .payload-of .ensures) (c .before .before .before .before .before .before .before .before .before .pre .1 .1) (c .before .before .before .before .before .if1 .left) (c .before .before .before .before .if2 .left) (c .before .before .before .if3 .left) (c .before .before .if4 .left) (c .before .if6 .left) (c .if7 .left)) walked-none
+other-returns-7 t c = walked-as (module-children (c .before .before .before .before .before .before .before .before .before .before .before .args .category) (c .before .before .before .before .before .before .before .before .before .before .before .args .context) (c .before .before .before .before .before .before .before .before .before .before .before .args .left) (c .before .before .before .before .before .before .before .before .before .before .before .pre .1 .0) (c .before .before .before .before .before .before .before .before .before .before .before .pre .1 .2) (c .before .before .before .before .before .before .before .before .payload-of .ensures) (c .before .before .before .before .before .before .before .before .before .before .before .pre .1 .3) (c .before .before .before .before .before .before .before .before .before .before .before .pre .1 .1) (c .before .before .before .before .before .before .before .if1 .left) (c .before .before .before .before .before .before .if2 .left) (c .before .before .before .before .before .if3 .left) (c .before .before .before .before .if5 .left)) (walked-then _ _ (c .before .before .before .records6 .ensures) (c .before .if6 .left) (walked-last (c .records7 .ensures)))
 
 abbrev records-Inv-loop : records-lts.InvT-loop
 records-Inv-loop ws at s category context left n p₀ c₀ x₀ l₀ k₀ p c x l k = (l ≤ left) × Rest s ws at (replicate n (place (slot category context) (maxDepth + 1 - left))) p (replicate k (place (slot c x) (maxDepth + 1 - l)))
@@ -664,7 +616,8 @@ records-kind-bit-requires : (t : ℕ) → records-lts.Need-kind-bit-requires (re
 records-kind-bit-requires t c κs = search needs
 
 records-nested-requires : (t : ℕ) → records-lts.Need-nested-requires (records-uses t) (records-at t) records.Post records-Inv-loop records-μ-loop
-records-nested-requires t c κs = (omega (arith, c .before .before .before .before .before .before .before .before .before .pre .0, c .before .before .before .before .before .before .before .loop .inv .0), (loop-here (c .before .before .before .before .before .before .before .loop .c) (c .before .before .before .before .before .before .before .loop .x) (c .before .before .before .before .before .before .before .loop .l) (c .before .before .before .before .before .before .before .loop .k) (c .before .before .before .before .before .before .before .loop .inv .1) (c .before .before .before .before .before .before .loop-test .taken) (c .before .before .before .fault .result) (c .before .before .before .before .before .if1 .left) (c .before .before .before .fault .ensures) (c .before .before .if2 .left), omega (arith, c .before .before .before .before .before .before .before .loop .inv .0, c .before .before .before .before .before .before .before .before .before .pre .1)))
+unfolding plain
+records-nested-requires t c κs = (omega (arith, c .before .before .before .before .before .before .before .before .before .pre .0, c .before .before .before .before .before .before .before .loop .inv .0), (loop-here (c .before .before .before .before .before .before .before .loop .c) (c .before .before .before .before .before .before .before .loop .x) (c .before .before .before .before .before .before .before .loop .l) (c .before .before .before .before .before .before .before .loop .k) (c .before .before .before .before .before .before .before .loop .inv .1) (c .before .before .before .before .before .before .loop-test .taken) (c .before .before .before .fault .result) (c .before .before .before .before .before .if1 .left) (c .before .before .before .fault .ensures) (c .before .before .if2 .left), omega (arith, c .before .before .before .before .before .before .before .loop .inv .0, c .before .before .before .before .before .before .before .before .before .pre .1), record { kind = sym (c .before .kind-bit .ensures .0) ∙ c .if3 .taken }))
 
 records-returns-3 : (t : ℕ) → records-lts.Need-returns-3 (records-uses t) (records-at t) records.Post records-Inv-loop records-μ-loop
 records-returns-3 t c = loop-stop-nested (c .before .before .before .before .before .before .before .before .before .before .loop .c) (c .before .before .before .before .before .before .before .before .before .before .loop .x) (c .before .before .before .before .before .before .before .before .before .before .loop .l) (c .before .before .before .before .before .before .before .before .before .before .loop .k) (c .before .before .before .before .before .before .before .before .before .before .loop .inv .1) (c .before .before .before .before .before .before .before .before .before .loop-test .taken) (c .before .before .before .before .before .before .fault .result) (c .before .before .before .before .before .before .before .before .if1 .left) (c .before .before .before .before .before .before .fault .ensures) (c .before .before .before .before .before .if2 .left) (c .before .before .nested .ensures) (c .if4 .taken)
@@ -779,48 +732,24 @@ statement-returns t c = walked-as (block-children 3 (c .before .before .before .
 
 statement-add-records-2 : (t : ℕ) → statement-lts.Need-add-records-2 (statement-uses t) (statement-at t) statement′.Post
 statement-add-records-2 t c =
-    let d = here-depth 3 (c .before .before .before .before .before .args .context) (maxDepth + 1 - c .before .before .before .before .before .args .left) (c .before .before .before .before .before .pre .1 .0) in
-    omega (arith, c .before .before .before .before .before .pre .1 .0 .inside)
+    let d = here-depth 3 (c .before .before .before .before .args .context) (maxDepth + 1 - c .before .before .before .before .args .left) (c .before .before .before .before .pre .1 .0) in
+    omega (arith, c .before .before .before .before .pre .1 .0 .inside)
 
 statement-payload-of-requires-2 : (t : ℕ) → statement-lts.Need-payload-of-requires-2 (statement-uses t) (statement-at t) statement′.Post
 statement-payload-of-requires-2 t c κs = search needs
 
 statement-sub-records-2 : (t : ℕ) → statement-lts.Need-sub-records-2 (statement-uses t) (statement-at t) statement′.Post
 statement-sub-records-2 t c =
-    let d = here-depth 3 (c .before .before .before .before .before .before .args .context) (maxDepth + 1 - c .before .before .before .before .before .before .args .left) (c .before .before .before .before .before .before .pre .1 .0) in
-    omega (arith, c .before .before .before .before .before .before .pre .1 .0 .inside)
+    let d = here-depth 3 (c .before .before .before .before .before .args .context) (maxDepth + 1 - c .before .before .before .before .before .args .left) (c .before .before .before .before .before .pre .1 .0) in
+    omega (arith, c .before .before .before .before .before .pre .1 .0 .inside)
 
 statement-records-requires-2 : (t : ℕ) → statement-lts.Need-records-requires-2 (statement-uses t) (statement-at t) statement′.Post
 statement-records-requires-2 t c κs =
-    let d = here-depth 3 (c .before .before .before .before .before .before .args .context) (maxDepth + 1 - c .before .before .before .before .before .before .args .left) (c .before .before .before .before .before .before .pre .1 .0) in
-    (omega (arith, c .before .before .before .before .before .before .pre .0), omega (arith, c .before .before .before .before .before .before .pre .1 .1))
+    let d = here-depth 3 (c .before .before .before .before .before .args .context) (maxDepth + 1 - c .before .before .before .before .before .args .left) (c .before .before .before .before .before .pre .1 .0) in
+    (omega (arith, c .before .before .before .before .before .pre .0), omega (arith, c .before .before .before .before .before .pre .1 .1))
 
 statement-returns-2 : (t : ℕ) → statement-lts.Need-returns-2 (statement-uses t) (statement-at t) statement′.Post
-statement-returns-2 t c = walked-as (class-statement-children 3 (c .before .before .before .before .before .before .before .args .context) (c .before .before .before .before .before .before .before .args .left) (c .before .before .before .before .before .before .before .pre .1 .0) (c .before .before .before .before .before .before .before .pre .1 .1) (c .before .payload-of2 .ensures) (sym (c .before .before .before .before .kind-of .ensures) ∙ c .before .before .if2 .taken)) (walked-last (c .records2 .ensures))
-
-statement-add-records-3 : (t : ℕ) → statement-lts.Need-add-records-3 (statement-uses t) (statement-at t) statement′.Post
-statement-add-records-3 t c =
-    let d = here-depth 3 (c .before .before .before .before .before .args .context) (maxDepth + 1 - c .before .before .before .before .before .args .left) (c .before .before .before .before .before .pre .1 .0) in
-    omega (arith, c .before .before .before .before .before .pre .1 .0 .inside)
-
-statement-sub-records-3 : (t : ℕ) → statement-lts.Need-sub-records-3 (statement-uses t) (statement-at t) statement′.Post
-statement-sub-records-3 t c =
-    let d = here-depth 3 (c .before .before .before .before .before .args .context) (maxDepth + 1 - c .before .before .before .before .before .args .left) (c .before .before .before .before .before .pre .1 .0) in
-    omega (arith, c .before .before .before .before .before .pre .1 .0 .inside)
-
-statement-child-count-requires : (t : ℕ) → statement-lts.Need-child-count-requires (statement-uses t) (statement-at t) statement′.Post
-statement-child-count-requires t c κs = search needs
-
-statement-cast-records-2 : (t : ℕ) → statement-lts.Need-cast-records-2 (statement-uses t) (statement-at t) statement′.Post
-statement-cast-records-2 t c = search needs
-
-statement-records-requires-3 : (t : ℕ) → statement-lts.Need-records-requires-3 (statement-uses t) (statement-at t) statement′.Post
-statement-records-requires-3 t c κs =
-    let d = here-depth 3 (c .before .before .before .before .before .before .args .context) (maxDepth + 1 - c .before .before .before .before .before .before .args .left) (c .before .before .before .before .before .before .pre .1 .0) in
-    (omega (arith, c .before .before .before .before .before .before .pre .0), omega (arith, c .before .before .before .before .before .before .pre .1 .1))
-
-statement-returns-3 : (t : ℕ) → statement-lts.Need-returns-3 (statement-uses t) (statement-at t) statement′.Post
-statement-returns-3 t c = walked-as (statement-children 3 (c .before .before .before .before .before .before .before .args .context) (c .before .before .before .before .before .before .before .args .left) (c .before .before .before .before .before .before .before .pre .1 .0) (c .before .before .before .before .before .before .before .pre .1 .1) refl _ (c .before .child-count .ensures) refl (λ e. c .before .before .before .if1 .left (c .before .before .before .before .kind-of .ensures ∙ e)) (λ e. c .before .before .if2 .left (c .before .before .before .before .kind-of .ensures ∙ e))) (c .records3 .ensures)
+statement-returns-2 t c = walked-as (class-statement-children 3 (c .before .before .before .before .before .before .args .context) (c .before .before .before .before .before .before .args .left) (c .before .before .before .before .before .before .pre .1 .0) (c .before .before .before .before .before .before .pre .1 .1) (c .before .payload-of2 .ensures) (c .before .before .before .before .before .before .pre .1 .2) refl (λ e. c .before .before .if1 .left (c .before .before .before .kind-of .ensures ∙ e))) (walked-last (c .records2 .ensures))
 
 pub +class+element+expression+method+nested+other+records+statement-spec :
     {M : Type 1} → statement M
@@ -880,8 +809,8 @@ pub +class+element+expression+method+nested+other+records+statement-spec :
     (element-returns-5 t))
     (λ t. expression-lts.spec (expression-uses t) (expression-at t)
     expression.Post
-    (expression-mul-w t)
-    (expression-shared-slice-read-w t)
+    (expression-mul-kind-of t)
+    (expression-shared-slice-read-kind-of t)
     (expression-kind-of-requires t)
     (expression-add-records t)
     (expression-sub-records t)
@@ -893,13 +822,7 @@ pub +class+element+expression+method+nested+other+records+statement-spec :
     (expression-returns-2 t)
     (expression-sub-records-3 t)
     (expression-records-requires-3 t)
-    (expression-returns-3 t)
-    (expression-add-records-3 t)
-    (expression-sub-records-4 t)
-    (expression-child-count-requires t)
-    (expression-cast-records t)
-    (expression-records-requires-4 t)
-    (expression-returns-4 t))
+    (expression-returns-3 t))
     (λ t. method-lts.spec (method-uses t) (method-at t)
     method.Post
     (method-mul-payload-of t)
@@ -949,10 +872,10 @@ pub +class+element+expression+method+nested+other+records+statement-spec :
     (other-sub-records-3 t)
     (other-records-requires-3 t)
     (other-returns-3 t)
-    (other-add-records-4 t)
     (other-sub-records-4 t)
     (other-records-requires-4 t)
     (other-returns-4 t)
+    (other-add-records-4 t)
     (other-sub-records-5 t)
     (other-records-requires-5 t)
     (other-returns-5 t)
@@ -960,15 +883,9 @@ pub +class+element+expression+method+nested+other+records+statement-spec :
     (other-sub-records-6 t)
     (other-records-requires-6 t)
     (other-returns-6 t)
-    (other-add-records-6 t)
     (other-sub-records-7 t)
     (other-records-requires-7 t)
-    (other-returns-7 t)
-    (other-sub-records-8 t)
-    (other-records-requires-8 t)
-    (other-returns-8 t)
-    (other-add-t11 t)
-    (other-returns-9 t))
+    (other-returns-7 t))
     (λ t. records-lts.spec (records-uses t) (records-at t)
     records.Post
     records-Inv-loop
@@ -1000,17 +917,7 @@ pub +class+element+expression+method+nested+other+records+statement-spec :
     (records-loop-less-4 t)
     (records-loop-again-4 t)
     (records-returns-5 t))
-    λ t. statement-lts.spec (
-      kind-of-reads.Asked,
-      kind-of-reads.Learnt,
-      payload-of-reads.Asked,
-      payload-of-reads.Learnt,
-      records-below t,
-      records.Post,
-      child-count-reads.Asked,
-      child-count-reads.Learnt,
-    )
-    (statement-at t)
+    λ t. statement-lts.spec (statement-uses t) (statement-at t)
     statement′.Post
     (statement-mul-w t)
     (statement-shared-slice-read-w t)
@@ -1026,9 +933,3 @@ pub +class+element+expression+method+nested+other+records+statement-spec :
     (statement-sub-records-2 t)
     (statement-records-requires-2 t)
     (statement-returns-2 t)
-    (statement-add-records-3 t)
-    (statement-sub-records-3 t)
-    (statement-child-count-requires t)
-    (statement-cast-records-2 t)
-    (statement-records-requires-3 t)
-    (statement-returns-3 t)
