@@ -62,11 +62,14 @@ pub fn renamed(s: ClassStack, p: u32) -> u32
     x
 }
 
-// Rule 6: the word of kind k and payload p as it stands under the classes around.
+// Rule 6: the word of kind k and payload p as it stands under the classes around: as it is where none has an alias.
 pub fn word(s: ClassStack, k: u32, p: u32) -> u32
     requires { ⌜ Ready s × (k < 64) × (p < 67108864) ⌝ }
     ensures { λ r. ⌜ r ≡ wordAt (renameL (subs s) (k ∶ p)) ⌝ }
 {
+    if s.depth == 0 {
+        return words::word_of(k, p);
+    }
     if k == 9 {
         return words::word_of(9, renamed(s, p));
     }

@@ -14,6 +14,7 @@ use Rattle.records.specs.Forest.{takeF, anyF}
 use Rattle.words.specs.Table.{lookup}
 use Rattle.words.specs.Word.{children, childTable}
 use Rattle.records.specs.Label.{is, arity}
+use Rattle.records.specs.Ends.{ends-set}
 use Rattle.records.specs.Place.{recordsAt, labelAt, arityAt, kidsAt, endOf, end-one, end-low, end-high}
 use Rattle.rewriting.specs.Parts.{idOf, isDecorated, isLive}
 use Rattle.inspect.specs.Inside.{anyWord, any-words}
@@ -21,7 +22,7 @@ use Rattle.inspect.specs.Child.{optOf, opt-some, opt-none}
 use Rattle.walk_laws.specs.Still.{changes, changesKind}
 use Rattle.walk_laws.specs.After.{classAfter}
 use Rattle.walk_laws.specs.Kinds.{isElementKind, class-one, class-kind}
-use Rattle.counter.specs.Contract.{Below, stateOf, aliasIn, Planned, Ready, Counts, Free, Noted, Annotated, Walks, hasDefault, defaultFrom, Near, Totals, classCount}
+use Rattle.counter.specs.Contract.{Below, stateOf, markIn, Planned, Ready, Counts, Free, Noted, Annotated, Walks, hasDefault, defaultFrom, Near, Totals, classCount}
 use Rattle.counter.specs.Steps.{ready-next, count-other, count-dropped, count-expression, count-declared, count-live}
 use Rattle.counter.specs.Totals.{counts-same, from-none, has-none, Follows, follows, free-ready, free-next, class-symbols, note-alias, noted-by}
 use Rattle.counter.specs.declared.Scope.{Scope}
@@ -92,7 +93,7 @@ module _ {ws notes : List ℕ} {at s : ℕ} (w : Behind ws notes at s) where
   ends {k} t = (omega (arith, t .place, end-high ws (at + 1) k, w .inside, w .ready .few), omega (arith, t .few, t .place, end-high ws (at + 1) k, w .inside, w .ready .few))
 
   pub live-leads : {i r : ℕ} {t : Total} → isLiveClass ws at ≡ true → optOf i ≡ idOf (kidsAt ws (at + 1)) → Totals ws (at + 1) 1 (record { live = true; id = i }) false t →
-      r ≡ classCount (isDecorated (kidsAt ws (at + 1))) (optOf i) (aliasIn (getD notes at 0)) (hasDefault (t .default)) → r ≤ 2 →
+      r ≡ classCount (isDecorated (kidsAt ws (at + 1))) (optOf i) (markIn (getD notes at 0)) (hasDefault (t .default)) → r ≤ 2 →
       Leads ws at (record { at = t .at; count = t .count + r; default = 67108864 })
   live-leads {i} {r} {t} live id h e l =
       let kind : labelAt ws at .kind ≡ 4 = live-kind ws at live .0 in
@@ -114,11 +115,11 @@ module _ {ws notes : List ℕ} {at s : ℕ} (w : Behind ws notes at s) where
       has n f = followed (t .default) n (near n f)
 
       symbols : (n : ℕ) → Free ws at n → n + (t .count + r) ≡
-          classAfter (isDecorated (kidsAt ws (at + 1))) (optOf i) (aliasIn (getD notes at 0)) (stateOf (n + t .count) (defaultFrom (t .default) n 67108864))
+          classAfter (isDecorated (kidsAt ws (at + 1))) (optOf i) (markIn (getD notes at 0)) (stateOf (n + t .count) (defaultFrom (t .default) n 67108864))
       symbols n f =
           let sum : n + (t .count + r) ≡ n + t .count + r = omega arith in
-          sum ∙ class-symbols (isDecorated (kidsAt ws (at + 1))) (optOf i) (aliasIn (getD notes at 0)) (n + t .count) (defaultFrom (t .default) n 67108864) r
-          (e ∙ ap (classCount (isDecorated (kidsAt ws (at + 1))) (optOf i) (aliasIn (getD notes at 0))) (sym (has n f)))
+          sum ∙ class-symbols (isDecorated (kidsAt ws (at + 1))) (optOf i) (markIn (getD notes at 0)) (n + t .count) (defaultFrom (t .default) n 67108864) r
+          (e ∙ ap (classCount (isDecorated (kidsAt ws (at + 1))) (optOf i) (markIn (getD notes at 0))) (sym (has n f)))
 
   -- ---- any other record
 
@@ -201,7 +202,7 @@ clear-any ws i next zero c h = refl
 clear-any ws i next (suc n) c h = rw (c i (omega arith) (omega arith)) (clear-any ws (i + 1) next n (λ j l. c j (omega arith)) (omega arith))
 
 pub leads-noted : {ws : List ℕ} {at : ℕ} {t : Total} (next v r : ℕ) → Leads ws at t → Clear ws at next → r ≡ 65536 * t .at + 4 * t .count + 2 * stillBit (t .at) next + v % 2 →
-    Noted ws at r × (aliasIn r ≡ aliasIn v)
+    Noted ws at r × (markIn r ≡ markIn v)
 leads-noted {ws} {at} {t} next v r h z e =
     let c : t .count < 16384 = omega (arith, h .few .1) in
     let q : stillBit (t .at) next < 2 = omega (arith, bit-small (t .at) next) in
@@ -243,22 +244,24 @@ filled-behind {ws} {notes₀} {notes} {m} {i} {next} {s} f d = record {
   noted = d .noted;
 }
 
-pub filled-next : {ws notes : List ℕ} {m i next : ℕ} (v k : ℕ) → Filled ws notes m (i + 1) next → Clear ws i k → Noted ws i v → aliasIn v ≡ aliasIn (getD notes i 0) → Filled ws (set notes i v) m i k
+pub filled-next : {ws notes : List ℕ} {m i next : ℕ} (v k : ℕ) → Filled ws notes m (i + 1) next → Clear ws i k → Noted ws i v → markIn v ≡ markIn (getD notes i 0) → Filled ws (set notes i v) m i k
 filled-next {ws} {notes} {m} {i} v k d z t e = record {
   clear = z;
   low = omega (arith, d .low);
   long = length-set notes i v ∙ d .long;
   planned = record {
-    long = omega (arith, d .planned .long, length-set notes i v);
+    ends = ends-set v (d .planned .ends) λ l. t .place;
     right = λ at n h kind live dec z. same at (eqb at i) refl ∙ d .planned .right at n h kind live dec z;
+    classes = λ at h kind. same at (eqb at i) refl ∙ d .planned .classes at h kind;
+    members = λ at h n m. same at (eqb at i) refl ∙ d .planned .members at h n m;
   };
   noted = unfold Annotated in λ j l h. other j l h (eqb j i) refl;
 }
   where
     in-table : i < length notes
-    in-table = omega (arith, d .low, d .planned .long)
+    in-table = omega (arith, d .low, d .planned .ends .long)
 
-    same : (at : ℕ) (x : Bool) → eqb at i ≡ x → aliasIn (getD (set notes i v) at 0) ≡ aliasIn (getD notes at 0)
+    same : (at : ℕ) (x : Bool) → eqb at i ≡ x → markIn (getD (set notes i v) at 0) ≡ markIn (getD notes at 0)
     same at true g =
         let p : at ≡ i = eqb-true at i g in
         rw (p, getD-set-same notes i v 0 in-table) e

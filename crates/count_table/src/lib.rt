@@ -1,4 +1,4 @@
-// Where each record of an accepted module ends and how many fresh symbols it takes: the notes of its places, filled from the last one to the first.
+// How many fresh symbols each record of an accepted module takes and whether it may change: the notes of its places, filled from the last one to the first.
 use counter::Scope;
 use counter::Total;
 use inspect::NONE;
@@ -9,11 +9,11 @@ ghost use lib.ListN.{length, getD};
 ghost use Rattle.records.specs.Forest.{takeF};
 ghost use Rattle.records.specs.Place.{recordsAt, labelAt};
 ghost use Rattle.rewriting.specs.Parts.{isLive};
-ghost use Rattle.counter.specs.Contract.{aliasIn, Planned, Ready, Noted, Annotated};
+ghost use Rattle.counter.specs.Contract.{markIn, Planned, Ready, Noted, Annotated};
 ghost use Rattle.count_table.specs.Note.{Behind, Leads, isLiveClass, Clear, stillBit};
 ghost use Rattle.walk_laws.specs.Still.{changesKind};
 
-// The notes of all places of the words, their aliases as they were. All ids are below s.
+// The notes of all places of the words, their ends and aliases as they were. All ids are below s.
 pub fn find_counts(ws: &[u32], notes: &mut [u32], s: u32)
     requires { ⌜ Ready (now ws) (now notes) 0 s ⌝ }
     ensures { λ r. ⌜ Planned (now (ws .entry)) (now (notes .exit)) × Annotated (now (ws .entry)) (now (notes .exit)) 0 × (length (now (notes .exit)) ≡ length (now (notes .entry))) ⌝ }
@@ -56,7 +56,7 @@ fn changes(kind: u32) -> bool
 // The note of the record at `at`, where those of the places behind it are right; next: the first place from `at` on with a word that may change.
 fn note(ws: &[u32], notes: &[u32], at: usize, next: usize, s: u32) -> u32
     requires { ⌜ Behind (now ws) (now notes) at s × Clear (now ws) at next ⌝ }
-    ensures { λ r. ⌜ Noted (now (ws .entry)) at r × (aliasIn r ≡ aliasIn (getD (now (notes .entry)) at 0)) ⌝ }
+    ensures { λ r. ⌜ Noted (now (ws .entry)) at r × (markIn r ≡ markIn (getD (now (notes .entry)) at 0)) ⌝ }
 {
     if is_live_class(ws, at) {
         return note_of(live_total(ws, notes, at, s), next, notes[at]);
@@ -80,7 +80,7 @@ fn live_total(ws: &[u32], notes: &[u32], at: usize, s: u32) -> Total
     requires { ⌜ Behind (now ws) (now notes) at s × (isLiveClass (now ws) at ≡ true) ⌝ }
     ensures { λ r. ⌜ Leads (now (ws .entry)) at r ⌝ }
 {
-    let id = inspect::class_id(ws, at + 1);
+    let id = inspect::class_id(ws, notes, at + 1);
     let t = counter::total_records(ws, notes, at + 1, 1, Scope { live: true, id }, false);
     Total {
         at: t.at,
@@ -94,17 +94,7 @@ fn dead_total(ws: &[u32], notes: &[u32], at: usize, s: u32) -> Total
     requires { ⌜ Behind (now ws) (now notes) at s × (isLiveClass (now ws) at ≡ false) ⌝ }
     ensures { λ r. ⌜ Leads (now (ws .entry)) at r ⌝ }
 {
-    counter::total_records(
-        ws,
-        notes,
-        at + 1,
-        inspect::children_at(ws, at),
-        Scope {
-            live: false,
-            id: NONE,
-        },
-        false,
-    )
+    counter::total_noted(ws, notes, at + 1, inspect::children_at(ws, at))
 }
 
 // A note by its parts, the alias that of the note w; next: the first place with a word that may change.

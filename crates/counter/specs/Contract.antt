@@ -1,6 +1,6 @@
 -- The contracts of the walkers that count fresh symbols: what they ask of the words, and what they answer. Definitions only.
 use mathlib.Core.Path.{_≡_}
-use mathlib.Core.Bool.{Bool, true, false, not, cond}
+use mathlib.Core.Bool.{Bool, true, false, not, cond, _||_}
 use mathlib.Core.Logic.{_⊎_}
 use mathlib.Core.Option.{Option, none, some}
 use mathlib.Core.List.{List, [], _∷_}
@@ -9,10 +9,11 @@ use lib.Dec.{eqb}
 use lib.ListN.{length, getD}
 use Rattle.records.specs.Forest.{takeF, anyF}
 use Rattle.records.specs.Label.{Trees}
+use Rattle.records.specs.Ends.{Ends}
 use Rattle.records.specs.Place.{recordsAt, labelAt, kidsAt, endOf}
 use Rattle.grammar.specs.Grammar.{module′}
 use Rattle.grammar.specs.WellFormed.{Fits}
-use Rattle.rewriting.specs.Parts.{elementsOf, idOf, isDecorated, isLive, classKids}
+use Rattle.rewriting.specs.Parts.{elementsOf, idOf, isDecorated, isDecoratedMember, isLive, classKids}
 use Rattle.rewriting.specs.Visit.{Around, State}
 use Rattle.inspect.specs.Child.{optOf}
 use Rattle.walk_laws.specs.Rows.{visitAt, fresh}
@@ -24,6 +25,10 @@ use Rattle.counter.specs.declared.Total.{Total}
 
 unfoldable pub aroundOf : Scope → Around
 aroundOf a = record { live = a .live; id = optOf (a .id) }
+
+-- no class around is live
+abbrev pub unlive : Scope
+unlive = record { live = false; id = 67108864 }
 
 unfoldable pub stateOf : ℕ → ℕ → State
 stateOf n d = record { next = n; default = optOf d }
@@ -37,19 +42,25 @@ Below n (some c) = c < n
 unfoldable pub elementsFrom : List ℕ → ℕ → ℕ → Trees
 elementsFrom ws at n = elementsOf (classKids (visitAt ws (at + 1) 1 (record { live = true; id = idOf (kidsAt ws (at + 1)) }) (fresh n) .here))
 
--- a note is a number of a word's size: in its lowest bit whether the class of the statement takes an alias, in the next whether the record becomes what it
--- is, then 14 bits for a count, then a place
-abbrev pub aliasIn : ℕ → Bool
-aliasIn w = eqb (w % 2) 1
+-- a note is a number of a word's size: in its lowest bit a mark, in the next whether the record becomes what it is, then 14 bits for a count, then a place
+abbrev pub markIn : ℕ → Bool
+markIn w = eqb (w % 2) 1
 
 abbrev pub stillIn : ℕ → Bool
 stillIn w = eqb (w / 2 % 2) 1
 
--- the note of a class statement says that its class takes an alias exactly when rule 6's search finds its symbol, whatever the counter in front of it
+-- the notes say where records end. The mark of a class statement says that its class takes an alias, exactly when rule 6's search finds its symbol, whatever
+-- the counter in front of it; that of a class, whether it is decorated (rule 6); that of any other record, whether it is a decorated member (rule 3)
 pub record Planned (ws notes : List ℕ) : Type 0 where
-  pub long : length ws ≤ length notes
+  pub ends : Ends ws notes 0
   pub right : (at n : ℕ) → at < length ws → labelAt ws at .kind ≡ 4 → isLive (takeF 1 (recordsAt ws (at + 1))) ≡ true → isDecorated (kidsAt ws (at + 1)) ≡ true →
-      Below n (idOf (kidsAt ws (at + 1))) → aliasIn (getD notes at 0) ≡ mentioned (idOf (kidsAt ws (at + 1))) (elementsFrom ws at n)
+      Below n (idOf (kidsAt ws (at + 1))) → markIn (getD notes at 0) ≡ mentioned (idOf (kidsAt ws (at + 1))) (elementsFrom ws at n)
+  pub classes : (at : ℕ) → at < length ws → labelAt ws at .kind ≡ 26 → markIn (getD notes at 0) ≡ isDecorated (kidsAt ws at)
+  pub members : (at : ℕ) → at < length ws → (labelAt ws at .kind ≡ 4 → ⊥) → (labelAt ws at .kind ≡ 26 → ⊥) → markIn (getD notes at 0) ≡ isDecoratedMember (labelAt ws at) (kidsAt ws at)
+
+-- a class and its body: what they take depends on the class around, and is not in their notes
+unfoldable pub isWalked : ℕ → Bool
+isWalked k = eqb k 26 || eqb k 29
 
 -- what a walker at the place `at` with the counter n asks: an accepted module, and room for the symbols to come
 pub record Ready (ws notes : List ℕ) (at n : ℕ) : Type 0 where

@@ -20,7 +20,7 @@ use Rattle.walk_laws.specs.Rows.{visitAt, fresh, row-none, row-past, after-add,
 use Rattle.walk_laws.specs.After.{keyAfter, memberAfter, mentioned, classAfter, after-expression, after-dead, after-live}
 use Rattle.walk_laws.specs.Roles.{role-4, role-20, plain-26}
 use Rattle.walk_laws.specs.Kinds.{isElementKind, after-rest, element-after, class-one, class-inside, class-kind, class-row-one, class-kids}
-use Rattle.counter.specs.Contract.{aroundOf, stateOf, Below, elementsFrom, aliasIn, Ready, Counts}
+use Rattle.counter.specs.Contract.{aroundOf, stateOf, Below, elementsFrom, markIn, Ready, Counts}
 use Rattle.counter.specs.declared.Scope.{Scope}
 use Rattle.counter.specs.declared.Counted.{Counted}
 
@@ -231,11 +231,11 @@ module _ {ws notes : List ℕ} {at n : ℕ} (f : Ready ws notes at n) (h : at < 
 
     -- the table says what rule 6's search finds
     pub found : isDecorated (kidsAt ws (at + 1)) ≡ true → isLive (takeF 1 (recordsAt ws (at + 1))) ≡ true →
-        aliasIn (getD notes at 0) ≡ mentioned (idOf (kidsAt ws (at + 1))) (elementsFrom ws at n)
+        markIn (getD notes at 0) ≡ mentioned (idOf (kidsAt ws (at + 1))) (elementsFrom ws at n)
     found e v = f .planned .right at n h kind v e (f .ids (at + 1) (class-kind ws (f .whole) at h kind))
 
     search : (x : Bool) → x ≡ isDecorated (kidsAt ws (at + 1)) → isLive (takeF 1 (recordsAt ws (at + 1))) ≡ true → (t : State) →
-        classAfter x (idOf (kidsAt ws (at + 1))) (aliasIn (getD notes at 0)) t ≡ classAfter x (idOf (kidsAt ws (at + 1))) (mentioned (idOf (kidsAt ws (at + 1))) (elementsFrom ws at n)) t
+        classAfter x (idOf (kidsAt ws (at + 1))) (markIn (getD notes at 0)) t ≡ classAfter x (idOf (kidsAt ws (at + 1))) (mentioned (idOf (kidsAt ws (at + 1))) (elementsFrom ws at n)) t
     search true e v t = ap (λ (y : Bool). classAfter true (idOf (kidsAt ws (at + 1))) y t) (found (sym e) v)
     search false e v t = unfold classAfter in refl
 
@@ -259,7 +259,7 @@ module _ {ws notes : List ℕ} {at n : ℕ} (f : Ready ws notes at n) (h : at < 
     -- a live class: m is the counter once it has its symbols
     pub count-live : (b : Scope) {r : Counted} (m : ℕ) → b .live ≡ true → optOf (b .id) ≡ idOf (kidsAt ws (at + 1)) → isLive (takeF 1 (recordsAt ws (at + 1))) ≡ true →
         Counts ws (at + 1) 1 b n 67108864 r →
-        m ≡ classAfter (isDecorated (kidsAt ws (at + 1))) (optOf (b .id)) (aliasIn (getD notes at 0)) (stateOf (r .next) (r .default)) →
+        m ≡ classAfter (isDecorated (kidsAt ws (at + 1))) (optOf (b .id)) (markIn (getD notes at 0)) (stateOf (r .next) (r .default)) →
         Counts ws at 1 a n d (record { at = r .at; next = m; default = d })
     count-live b {r} m l i v c e =
         let ck : Trees = kidsAt ws (at + 1) in
@@ -272,7 +272,7 @@ module _ {ws notes : List ℕ} {at n : ℕ} (f : Ready ws notes at n) (h : at < 
         ∙ ap (λ (g : Trees). record { next = classAfter (isDecorated (classKids kk)) (idOf (classKids kk)) (mentioned (idOf (classKids kk)) g) (stateOf (r .next) (r .default)); default = stateOf n d .default }) elements-at
         ∙ ap (λ (g : Trees). record { next = classAfter (isDecorated g) (idOf g) (mentioned (idOf g) (elementsFrom ws at n)) (stateOf (r .next) (r .default)); default = stateOf n d .default }) (class-kids ws (f .whole) at h kind)
         ∙ ap (λ (j : ℕ). record { next = j; default = stateOf n d .default })
-        (sym (search (isDecorated ck) refl v (stateOf (r .next) (r .default))) ∙ ap (λ (o : Option ℕ). classAfter (isDecorated ck) o (aliasIn (getD notes at 0)) (stateOf (r .next) (r .default))) (sym i) ∙ sym e)
+        (sym (search (isDecorated ck) refl v (stateOf (r .next) (r .default))) ∙ ap (λ (o : Option ℕ). classAfter (isDecorated ck) o (markIn (getD notes at 0)) (stateOf (r .next) (r .default))) (sym i) ∙ sym e)
         ∙ default-of m)
 
 -- ---- the symbols of a class and of a key, by their numbers

@@ -22,7 +22,7 @@ use Rattle.walk_laws.specs.Kinds.{isElementKind, element-after}
 use Rattle.walk_laws.specs.Quiet.{hasClass}
 use Rattle.walk_laws.specs.Still.{changes}
 use Rattle.walk_laws.specs.Around.{kids-same, after-same}
-use Rattle.counter.specs.Contract.{aroundOf, stateOf, Ready, Counts, Free, Noted, Annotated, Walks, hasDefault, defaultFrom, Near, FromAny, Totals, keyCount, classCount}
+use Rattle.counter.specs.Contract.{aroundOf, stateOf, markIn, isWalked, unlive, Planned, Ready, Counts, Free, Noted, Annotated, Walks, hasDefault, defaultFrom, Near, FromAny, Totals, keyCount, classCount}
 use Rattle.counter.specs.Steps.{counts-on, counts-low, counts-high, counts-within, below-more, ready-on, count-none, count-past, count-add, count-other, count-plain, count-member, taken-id, taken-default, taken-fresh}
 use Rattle.counter.specs.declared.Scope.{Scope}
 use Rattle.counter.specs.declared.Counted.{Counted}
@@ -39,6 +39,15 @@ total-same {ws} {at} {k} {a} {has} {q} {c} {o} r t p e g =
     subst (λ (v : ℕ). Totals ws at k a has (record { at = r .at; count = r .count; default = v })) (sym g)
     (subst (λ (v : ℕ). Totals ws at k a has (record { at = r .at; count = v; default = o })) (sym e)
     (subst (λ (v : ℕ). Totals ws at k a has (record { at = v; count = c; default = o })) (sym p) t))
+
+-- two kinds of which a test says different things are different
+pub kinds-apart : (f : ℕ → Bool) (k j : ℕ) → f k ≡ true → f j ≡ false → k ≡ j → ⊥
+kinds-apart f k j t n e = true≢false (sym t ∙ ap f e ∙ n)
+
+-- an element is neither a class nor a body
+pub element-single : (k : ℕ) → isElementKind k ≡ true → isWalked k ≡ false
+unfolding isWalked
+element-single k e = rw (ne-eqb k 26 (kinds-apart isElementKind k 26 e (unfold isElementKind in refl)), ne-eqb k 29 (kinds-apart isElementKind k 29 e (unfold isElementKind in refl)))
 
 -- ---- default symbols
 
@@ -148,12 +157,9 @@ note-at ws notes at f h = f at (omega arith) h
 
 -- ---- kinds
 
-not-element : {k : ℕ} (j : ℕ) → isElementKind k ≡ true → isElementKind j ≡ false → k ≡ j → ⊥
-not-element j e n g = true≢false (sym e ∙ ap isElementKind g ∙ n)
-
 no-class : (k : ℕ) → isElementKind k ≡ true → hasClass k ≡ false
 unfolding hasClass
-no-class k e = rw (ne-eqb k 4 (not-element 4 e (unfold isElementKind in refl)), ne-eqb k 20 (not-element 20 e (unfold isElementKind in refl)))
+no-class k e = rw (ne-eqb k 4 (kinds-apart isElementKind k 4 e (unfold isElementKind in refl)), ne-eqb k 20 (kinds-apart isElementKind k 20 e (unfold isElementKind in refl)))
 
 dropped : (x y p : Bool) (id : Option ℕ) (s : State) → x ≡ false → memberAfter (x && y) p id s ≡ s
 unfolding memberAfter
@@ -260,6 +266,12 @@ module _ {ws notes : List ℕ} {at : ℕ} (w : Walks ws notes at) (h : at < leng
         after = all;
       }
 
+-- the mark of an element says whether it is a decorated member
+pub element-mark : {ws notes : List ℕ} (at : ℕ) → Planned ws notes → at < length ws → isElementKind (labelAt ws at .kind) ≡ true →
+    markIn (getD notes at 0) ≡ isDecoratedMember (labelAt ws at) (kidsAt ws at)
+element-mark at p h kind =
+    p .members at h (kinds-apart isElementKind _ 4 kind (unfold isElementKind in refl)) (kinds-apart isElementKind _ 26 kind (unfold isElementKind in refl))
+
 module _ {ws notes : List ℕ} {at : ℕ} (w : Walks ws notes at) (h : at < length ws) (a : Scope) (has : Bool) (x : ℕ) (t : Noted ws at x) where
   total-by : ((b : Scope) (n d : ℕ) → Free ws at n → b .live ≡ a .live → Counts ws at 1 b n d (record { at = x / 65536; next = n + x / 4 % 16384; default = d })) →
       Totals ws at 1 a has (record { at = x / 65536; count = x / 4 % 16384; default = 67108864 })
@@ -278,17 +290,13 @@ module _ {ws notes : List ℕ} {at : ℕ} (w : Walks ws notes at) (h : at < leng
   pub total-dead : a .live ≡ false → Totals ws at 1 a has (record { at = x / 65536; count = x / 4 % 16384; default = 67108864 })
   total-dead e = total-by λ b n d f l. t .count b n d (l ∙ e) f
 
-  unlive : Scope
-  unlive = record { live = false; id = 67108864 }
-
   unlive-dead : aroundOf unlive .live ≡ false
-  unfolding aroundOf unlive
+  unfolding aroundOf
   unlive-dead = refl
 
   -- a record that is no class, no body and no element
   pub total-quiet : (labelAt ws at .kind ≡ 26 → ⊥) → (labelAt ws at .kind ≡ 29 → ⊥) → (labelAt ws at .kind ≡ 30 → ⊥) → (labelAt ws at .kind ≡ 31 → ⊥) →
       (labelAt ws at .kind ≡ 32 → ⊥) → Totals ws at 1 a has (record { at = x / 65536; count = x / 4 % 16384; default = 67108864 })
-  unfolding unlive
   total-quiet a26 a29 a30 a31 a32 = total-by λ b n d f l.
       record { place = t .place; state = after-same ws (w .ready .whole) at h (aroundOf b) (aroundOf unlive) (stateOf n d) a26 a29 a30 a31 a32 ∙ t .count unlive n d refl f .state }
 
@@ -296,7 +304,6 @@ module _ {ws notes : List ℕ} {at : ℕ} (w : Walks ws notes at) (h : at < leng
 
   module _ (kind : isElementKind (labelAt ws at .kind) ≡ true) where
     kids-counts : (b : Scope) (n d : ℕ) → Free ws at n → Counts ws (at + 1) (arityAt ws at) b n d (record { at = x / 65536; next = n + x / 4 % 16384; default = d })
-    unfolding unlive
     kids-counts b n d f = record {
       place = t .place ∙ end-one ws at h;
       state =
@@ -309,7 +316,7 @@ module _ {ws notes : List ℕ} {at : ℕ} (w : Walks ws notes at) (h : at < leng
       where
         element-same : (b : Scope) (n d : ℕ) → visit (aroundOf b) (kidsAt ws at) (stateOf n d) ≡ visit (aroundOf unlive) (kidsAt ws at) (stateOf n d)
         element-same b n d =
-            kids-same ws (w .ready .whole) at h (aroundOf b) (aroundOf unlive) (stateOf n d) (not-element 26 kind (unfold isElementKind in refl)) (not-element 29 kind (unfold isElementKind in refl)) (no-class _ kind)
+            kids-same ws (w .ready .whole) at h (aroundOf b) (aroundOf unlive) (stateOf n d) (kinds-apart isElementKind _ 26 kind (unfold isElementKind in refl)) (kinds-apart isElementKind _ 29 kind (unfold isElementKind in refl)) (no-class _ kind)
 
     -- one that isn't decorated
     pub total-plain : isDecoratedMember (labelAt ws at) (kidsAt ws at) ≡ false → Totals ws at 1 a has (record { at = x / 65536; count = x / 4 % 16384; default = 67108864 })
@@ -343,7 +350,6 @@ module _ {ws notes : List ℕ} {at : ℕ} (w : Walks ws notes at) (h : at < leng
       key-after n e = keyed (hasPlainKey (kidsAt ws at)) n e
 
       small : (n : ℕ) → Free ws at n → n + c < 67108864
-      unfolding unlive
       small n f =
           let g : Counts ws at 1 unlive n 67108864 (record { at = x / 65536; next = n + x / 4 % 16384; default = 67108864 }) = t .count unlive n 67108864 refl f in
           omega (arith, counts-high g, counts-within g (w .ready .inside), f .room, h, counts-on g)

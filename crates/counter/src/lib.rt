@@ -2,16 +2,17 @@
 // nothing; walks no further down than to the elements of a class, since the notes say the rest.
 use inspect::NONE;
 ghost use mathlib.Core.Path.{_≡_};
-ghost use mathlib.Core.Bool.{true, _||_};
+ghost use mathlib.Core.Bool.{true, false, _||_};
 ghost use Prim.Native.Nat.{_+_, _/_, _%_, _<_, _≤_};
 ghost use lib.ListN.{length, getD};
+ghost use Rattle.records.specs.Ends.{Ends};
 ghost use Rattle.records.specs.Place.{labelAt, kidsAt};
 ghost use Rattle.rewriting.specs.Parts.{hasPlainKey, isDecorated};
 ghost use Rattle.rewriting.specs.Visit.{classSymbol};
 ghost use Rattle.inspect.specs.Child.{optOf};
 ghost use Rattle.walk_laws.specs.After.{keyAfter, classAfter};
 ghost use Rattle.walk_laws.specs.Kinds.{isElementKind};
-ghost use Rattle.counter.specs.Contract.{stateOf, aliasIn, Ready, Counts, Annotated, Walks, Totals, Near, hasDefault, defaultFrom, keyCount, classCount};
+ghost use Rattle.counter.specs.Contract.{stateOf, markIn, isWalked, unlive, Planned, Ready, Counts, Annotated, Walks, Totals, Near, hasDefault, defaultFrom, keyCount, classCount};
 
 // The class directly around: is it live, and the symbol of its id.
 pub struct Scope {
@@ -48,11 +49,12 @@ pub fn count_records(ws: &[u32], notes: &[u32], at: usize, k: usize, a: Scope, s
     behind(total_records(ws, notes, at, k, a, s.default != NONE), s)
 }
 
+// The record at `at`, which is neither a class nor a body.
 pub fn count_record(ws: &[u32], notes: &[u32], at: usize, a: Scope, s: Count) -> Counted
-    requires { ⌜ Ready (now ws) (now notes) at (s .next) × Annotated (now ws) (now notes) at × (at < length (now ws)) ⌝ }
+    requires { ⌜ Ready (now ws) (now notes) at (s .next) × Annotated (now ws) (now notes) at × (at < length (now ws)) × (isWalked (labelAt (now ws) at .kind) ≡ false) ⌝ }
     ensures { λ r. ⌜ Counts (now (ws .entry)) at 1 a (s .next) (s .default) r ⌝ }
 {
-    behind(total_record(ws, notes, at, a, s.default != NONE), s)
+    behind(total_single(ws, notes, at, a, s.default != NONE), s)
 }
 
 // The state behind records that lead so far, from the state s on.
@@ -108,6 +110,34 @@ pub fn total_records(ws: &[u32], notes: &[u32], at: usize, k: usize, a: Scope, h
     }
 }
 
+// The k records at `at` where no class around is live: what their notes say.
+pub fn total_noted(ws: &[u32], notes: &[u32], at: usize, k: usize) -> Total
+    requires { ⌜ Walks (now ws) (now notes) at ⌝ }
+    ensures { λ r. ⌜ Totals (now (ws .entry)) at k unlive false r ⌝ }
+{
+    let mut q = at;
+    let mut i = 0;
+    let mut n: u32 = 0;
+    while i < k {
+        if ws.len() <= q {
+            return Total {
+                at: q,
+                count: n,
+                default: NONE,
+            };
+        }
+        let t = from_note(notes[q]);
+        q = t.at;
+        n += t.count;
+        i += 1;
+    }
+    Total {
+        at: q,
+        count: n,
+        default: NONE,
+    }
+}
+
 // Has the class its default symbol behind records that take d for it, or none?
 fn has_default(has: bool, d: u32) -> bool
     ensures { λ r. ⌜ r ≡ (hasDefault d || has) ⌝ }
@@ -118,7 +148,6 @@ fn has_default(has: bool, d: u32) -> bool
     has
 }
 
-// Only a class, a body and an element depend on the class around: all else is in the note.
 fn total_record(ws: &[u32], notes: &[u32], at: usize, a: Scope, has: bool) -> Total
     requires { ⌜ Walks (now ws) (now notes) at × (at < length (now ws)) ⌝ }
     ensures { λ r. ⌜ Totals (now (ws .entry)) at 1 a has r ⌝ }
@@ -126,10 +155,32 @@ fn total_record(ws: &[u32], notes: &[u32], at: usize, a: Scope, has: bool) -> To
     if !a.live {
         return from_note(notes[at]);
     }
+    if is_walked(inspect::kind_at(ws, at)) {
+        return total_records(ws, notes, at + 1, inspect::children_at(ws, at), a, has);
+    }
+    total_single(ws, notes, at, a, has)
+}
+
+// A class or a body?
+fn is_walked(kind: u32) -> bool
+    ensures { λ r. ⌜ r ≡ isWalked kind ⌝ }
+{
+    if kind == 26 {
+        return true;
+    }
+    kind == 29
+}
+
+// Of the records that are neither a class nor a body only an element of a live class depends on the class around: all else is in the note.
+fn total_single(ws: &[u32], notes: &[u32], at: usize, a: Scope, has: bool) -> Total
+    requires { ⌜ Walks (now ws) (now notes) at × (at < length (now ws)) × (isWalked (labelAt (now ws) at .kind) ≡ false) ⌝ }
+    ensures { λ r. ⌜ Totals (now (ws .entry)) at 1 a has r ⌝ }
+{
+    if !a.live {
+        return from_note(notes[at]);
+    }
     let k = inspect::kind_at(ws, at);
     match k {
-        26 => total_records(ws, notes, at + 1, inspect::children_at(ws, at), a, has),
-        29 => total_records(ws, notes, at + 1, inspect::children_at(ws, at), a, has),
         30 => total_element(ws, notes, at, a, has),
         31 => total_element(ws, notes, at, a, has),
         32 => total_element(ws, notes, at, a, has),
@@ -153,11 +204,12 @@ fn total_element(ws: &[u32], notes: &[u32], at: usize, a: Scope, has: bool) -> T
     requires { ⌜ Walks (now ws) (now notes) at × (at < length (now ws)) × (isElementKind (labelAt (now ws) at .kind) ≡ true) × (a .live ≡ true) ⌝ }
     ensures { λ r. ⌜ Totals (now (ws .entry)) at 1 a has r ⌝ }
 {
-    let t = from_note(notes[at]);
-    if !inspect::member_decorated(ws, at) {
+    let w = notes[at];
+    let t = from_note(w);
+    if w % 2 != 1 {
         return t;
     }
-    let key = key_count(ws, at);
+    let key = key_count(ws, notes, at);
     if a.id != NONE {
         return Total {
             at: t.at,
@@ -180,10 +232,11 @@ fn total_element(ws: &[u32], notes: &[u32], at: usize, a: Scope, has: bool) -> T
 }
 
 // Rule 5: 1 if the key of the member at `at` takes a symbol.
-fn key_count(ws: &[u32], at: usize) -> u32
+fn key_count(ws: &[u32], notes: &[u32], at: usize) -> u32
+    requires { ⌜ Ends (now ws) (now notes) 0 ⌝ }
     ensures { λ r. ⌜ (r ≡ keyCount (hasPlainKey (kidsAt (now (ws .entry)) at))) × (r ≤ 1) ⌝ }
 {
-    if inspect::plain_key(ws, at) {
+    if inspect::plain_key(ws, notes, at) {
         return 0;
     }
     1
@@ -191,10 +244,10 @@ fn key_count(ws: &[u32], at: usize) -> u32
 
 // Rule 6: how many symbols the live class of the statement at `at` takes; default: its default symbol, or NONE.
 pub fn class_count(ws: &[u32], notes: &[u32], at: usize, id: u32, default: u32) -> u32
-    requires { ⌜ (at < length (now notes)) × (at < 67108864) ⌝ }
-    ensures { λ r. ⌜ (r ≡ classCount (isDecorated (kidsAt (now (ws .entry)) (at + 1))) (optOf id) (aliasIn (getD (now (notes .entry)) at 0)) (hasDefault default)) × (r ≤ 2) ⌝ }
+    requires { ⌜ Planned (now ws) (now notes) × (at + 1 < length (now ws)) × (labelAt (now ws) (at + 1) .kind ≡ 26) × (at < 67108864) ⌝ }
+    ensures { λ r. ⌜ (r ≡ classCount (isDecorated (kidsAt (now (ws .entry)) (at + 1))) (optOf id) (markIn (getD (now (notes .entry)) at 0)) (hasDefault default)) × (r ≤ 2) ⌝ }
 {
-    if !inspect::check_class_has_decorated(ws, at + 1) {
+    if notes[at + 1] % 2 != 1 {
         return 0;
     }
     if id != NONE {
@@ -227,11 +280,11 @@ pub fn class_symbol(a: Scope, s: Count) -> Count
 }
 
 // Rule 5: the state once the member at `at` has a name.
-pub fn key_symbol(ws: &[u32], at: usize, s: Count) -> Count
-    requires { ⌜ s .next ≤ 67108864 ⌝ }
+pub fn key_symbol(ws: &[u32], notes: &[u32], at: usize, s: Count) -> Count
+    requires { ⌜ (s .next ≤ 67108864) × Ends (now ws) (now notes) 0 ⌝ }
     ensures { λ r. ⌜ stateOf (r .next) (r .default) ≡ keyAfter (hasPlainKey (kidsAt (now (ws .entry)) at)) (stateOf (s .next) (s .default)) ⌝ }
 {
-    if inspect::plain_key(ws, at) {
+    if inspect::plain_key(ws, notes, at) {
         return s;
     }
     Count {
@@ -242,8 +295,8 @@ pub fn key_symbol(ws: &[u32], at: usize, s: Count) -> Count
 
 // Rule 6: the next fresh symbol once the live class of the statement at `at` has its symbols; s is the state behind its children.
 pub fn class_symbols(ws: &[u32], notes: &[u32], at: usize, id: u32, s: Count) -> u32
-    requires { ⌜ (at < length (now notes)) × (s .next < 67108864) × (at < 67108864) ⌝ }
-    ensures { λ r. ⌜ r ≡ classAfter (isDecorated (kidsAt (now (ws .entry)) (at + 1))) (optOf id) (aliasIn (getD (now (notes .entry)) at 0)) (stateOf (s .next) (s .default)) ⌝ }
+    requires { ⌜ Planned (now ws) (now notes) × (at + 1 < length (now ws)) × (labelAt (now ws) (at + 1) .kind ≡ 26) × (at < 67108864) × (s .next < 67108864) ⌝ }
+    ensures { λ r. ⌜ r ≡ classAfter (isDecorated (kidsAt (now (ws .entry)) (at + 1))) (optOf id) (markIn (getD (now (notes .entry)) at 0)) (stateOf (s .next) (s .default)) ⌝ }
 {
     s.next + class_count(ws, notes, at, id, s.default)
 }

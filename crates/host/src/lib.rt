@@ -11,7 +11,7 @@ ghost use Rattle.host.specs.Bytes.{wordFrom, wordsOfBytes, bytesFrom, by
 ghost use Rattle.host.specs.Entry.{numberOf, InFields, answerIn, isBadLength, rewriteBytes, rewriteBytesLent, reportBytes, ReportBytesLent};
 
 // Rewrites the module in `bytes`; the answer's bytes go to the start of `out`. The number holds the three answers.
-// A short module takes short arrays, which are cleared sooner.
+// A module takes arrays of one of three sizes: short ones are cleared sooner.
 #[no_mangle]
 pub extern "C" fn gingerpost_rewrite(bytes: &[u8], out: &mut [u8]) -> u64
     ensures number { λ r. ⌜ r ≡ numberOf (rewriteBytes (now (bytes .entry)) (now (out .entry))) ⌝ }
@@ -24,6 +24,11 @@ pub extern "C" fn gingerpost_rewrite(bytes: &[u8], out: &mut [u8]) -> u64
     if bytes.len() <= 256 {
         let mut ws = [0u32; 64];
         let mut written = [0u32; 192];
+        return rewrite_by(bytes, &mut ws, &mut written, out);
+    }
+    if bytes.len() <= 2048 {
+        let mut ws = [0u32; 512];
+        let mut written = [0u32; 1536];
         return rewrite_by(bytes, &mut ws, &mut written, out);
     }
     let mut ws = [0u32; 4096];
@@ -61,6 +66,11 @@ pub extern "C" fn gingerpost_report(bytes: &[u8], out: &mut [u8]) -> u64
     if bytes.len() <= 256 {
         let mut ws = [0u32; 64];
         let mut written = [0u32; 21];
+        return report_by(bytes, &mut ws, &mut written, out);
+    }
+    if bytes.len() <= 2048 {
+        let mut ws = [0u32; 512];
+        let mut written = [0u32; 170];
         return report_by(bytes, &mut ws, &mut written, out);
     }
     let mut ws = [0u32; 4096];

@@ -6,6 +6,7 @@ ghost use Prim.Native.Nat.{_+_, _<_, _≤_};
 ghost use lib.ListN.{getD};
 ghost use Rattle.records.specs.Forest.{end, takeF, anyF};
 ghost use Rattle.records.specs.Label.{is, readAt, _∶_};
+ghost use Rattle.records.specs.Ends.{Ends};
 ghost use Rattle.records.specs.Place.{recordsAt, labelAt, arityAt, kidsAt, endOf};
 ghost use Rattle.rewriting.specs.Parts.{isEmpty, decorators, ofParameters, parametersOf, elementsOf, isConstructor, isDecoratedMember, isPlainKey, hasPlainKey, constructorDecorated, hasStatic, firstConstructor, idOf, ofElements, hasPrivateIn, isLive, isDecorated, isDecoratedClass, anyRecord, isRefused7};
 ghost use Rattle.inspect.specs.Row.{anyRow, before};
@@ -49,8 +50,8 @@ pub fn children_at(ws: &[u32], i: usize) -> usize
 
 // ---- the reader
 
-// The words and the place that is read next: 01's "small reader that keeps the words and its position". Its functions are thin ones over `records::skip` and
-// `word_at`; every other caller takes `word_behind`.
+// The words and the place that is read next: 01's "small reader that keeps the words and its position". Its functions are thin ones over `records::behind`
+// and `word_at`; every other caller takes `word_behind`.
 pub struct Reader<'a> {
     pub words: &'a [u32],
     pub at: usize,
@@ -64,12 +65,13 @@ impl<'a> Reader<'a> {
     }
 
     // The reader behind the next k records.
-    pub fn behind(self, k: usize) -> Reader<'a>
+    pub fn behind(self, notes: &[u32], k: usize) -> Reader<'a>
+        requires { ⌜ Ends (now (self .words)) (now notes) 0 ⌝ }
         ensures { λ r. ⌜ (r .words ≡ self .entry .words) × (r .at ≡ endOf (now (self .entry .words)) (self .entry .at) k) ⌝ }
     {
         Reader {
             words: self.words,
-            at: records::skip(self.words, self.at, k),
+            at: records::behind(self.words, notes, self.at, k),
         }
     }
 
@@ -82,16 +84,18 @@ impl<'a> Reader<'a> {
 }
 
 // The word behind the k records at `at`, or 0 past the end.
-pub fn word_behind(ws: &[u32], at: usize, k: usize) -> u32
+pub fn word_behind(ws: &[u32], notes: &[u32], at: usize, k: usize) -> u32
+    requires { ⌜ Ends (now ws) (now notes) 0 ⌝ }
     ensures { λ r. ⌜ r ≡ getD (now (ws .entry)) (endOf (now (ws .entry)) at k) 0 ⌝ }
 {
-    Reader::new(ws, at).behind(k).word()
+    Reader::new(ws, at).behind(notes, k).word()
 }
 
 // ---- children, by kind and by position; the end of the words stands for the place of one that is missing, 0 for its word
 
 // The first record of a kind among the k records at `at`.
-pub fn find(ws: &[u32], at: usize, k: usize, kind: u32) -> usize
+pub fn find(ws: &[u32], notes: &[u32], at: usize, k: usize, kind: u32) -> usize
+    requires { ⌜ Ends (now ws) (now notes) 0 ⌝ }
     ensures { λ r. ⌜ Found (now (ws .entry)) kind at k r ⌝ }
 {
     let mut q = at;
@@ -103,35 +107,38 @@ pub fn find(ws: &[u32], at: usize, k: usize, kind: u32) -> usize
         if kind_at(ws, q) == kind {
             return q;
         }
-        q = records::skip(ws, q, 1);
+        q = records::behind(ws, notes, q, 1);
         i += 1;
     }
     ws.len()
 }
 
 // The first child of a kind of the record at `at`.
-pub fn child(ws: &[u32], at: usize, kind: u32) -> usize
+pub fn child(ws: &[u32], notes: &[u32], at: usize, kind: u32) -> usize
+    requires { ⌜ Ends (now ws) (now notes) 0 ⌝ }
     ensures { λ r. ⌜ Found (now (ws .entry)) kind (at + 1) (arityAt (now (ws .entry)) at) r ⌝ }
 {
     let n = children_at(ws, at);
     if n == 0 {
         return ws.len();
     }
-    find(ws, at + 1, n, kind)
+    find(ws, notes, at + 1, n, kind)
 }
 
 // The 36 of the method, constructor or function at `at`.
-pub fn parameters(ws: &[u32], at: usize) -> usize
+pub fn parameters(ws: &[u32], notes: &[u32], at: usize) -> usize
+    requires { ⌜ Ends (now ws) (now notes) 0 ⌝ }
     ensures { λ r. ⌜ (kidsAt (now (ws .entry)) r ≡ parametersOf (kidsAt (now (ws .entry)) at)) × Found (now (ws .entry)) 36 (at + 1) (arityAt (now (ws .entry)) at) r ⌝ }
 {
-    child(ws, at, 36)
+    child(ws, notes, at, 36)
 }
 
 // The 29 of the class at `at`.
-pub fn body(ws: &[u32], at: usize) -> usize
+pub fn body(ws: &[u32], notes: &[u32], at: usize) -> usize
+    requires { ⌜ Ends (now ws) (now notes) 0 ⌝ }
     ensures { λ r. ⌜ (kidsAt (now (ws .entry)) r ≡ elementsOf (kidsAt (now (ws .entry)) at)) × Found (now (ws .entry)) 29 (at + 1) (arityAt (now (ws .entry)) at) r ⌝ }
 {
-    child(ws, at, 29)
+    child(ws, notes, at, 29)
 }
 
 // The 28 of the record at `at`, if it is the first child.
@@ -159,19 +166,21 @@ pub fn decorated(ws: &[u32], at: usize) -> bool
 }
 
 // The word of the second child of the record at `at`: a member's key, a class's id.
-fn second_word(ws: &[u32], at: usize) -> u32
+fn second_word(ws: &[u32], notes: &[u32], at: usize) -> u32
+    requires { ⌜ Ends (now ws) (now notes) 0 ⌝ }
     ensures { λ r. ⌜ SecondWord (now (ws .entry)) at r ⌝ }
 {
     if children_at(ws, at) <= 1 {
         return 0;
     }
-    word_behind(ws, at + 1, 1)
+    word_behind(ws, notes, at + 1, 1)
 }
 
 // ---- members; `at` is the place of a 30, 31 or 32
 
 // Has one of the k parameters at `at` decorators?
-pub fn any_decorated(ws: &[u32], at: usize, k: usize) -> bool
+pub fn any_decorated(ws: &[u32], notes: &[u32], at: usize, k: usize) -> bool
+    requires { ⌜ Ends (now ws) (now notes) 0 ⌝ }
     ensures { λ r. ⌜ r ≡ anyRow hasDecorators (takeF k (recordsAt (now (ws .entry)) at)) ⌝ }
 {
     let mut q = at;
@@ -183,18 +192,19 @@ pub fn any_decorated(ws: &[u32], at: usize, k: usize) -> bool
         if decorated(ws, q) {
             return true;
         }
-        q = records::skip(ws, q, 1);
+        q = records::behind(ws, notes, q, 1);
         i += 1;
     }
     false
 }
 
 // Has the method or constructor at `at` a decorated parameter?
-pub fn class_method_parameter_is_decorated(ws: &[u32], at: usize) -> bool
+pub fn class_method_parameter_is_decorated(ws: &[u32], notes: &[u32], at: usize) -> bool
+    requires { ⌜ Ends (now ws) (now notes) 0 ⌝ }
     ensures { λ r. ⌜ r ≡ not (isEmpty (ofParameters 0 (parametersOf (kidsAt (now (ws .entry)) at)))) ⌝ }
 {
-    let p = parameters(ws, at);
-    any_decorated(ws, p + 1, children_at(ws, p))
+    let p = parameters(ws, notes, at);
+    any_decorated(ws, notes, p + 1, children_at(ws, p))
 }
 
 // Is the word that of a constructor?
@@ -208,7 +218,8 @@ pub fn is_constructor(w: u32) -> bool
 }
 
 // Rule 3: is the element at `at` a member with decorators, its parameters' included?
-pub fn member_decorated(ws: &[u32], at: usize) -> bool
+pub fn member_decorated(ws: &[u32], notes: &[u32], at: usize) -> bool
+    requires { ⌜ Ends (now ws) (now notes) 0 ⌝ }
     ensures { λ r. ⌜ r ≡ isDecoratedMember (labelAt (now (ws .entry)) at) (kidsAt (now (ws .entry)) at) ⌝ }
 {
     let k = kind_at(ws, at);
@@ -221,12 +232,12 @@ pub fn member_decorated(ws: &[u32], at: usize) -> bool
     if k != 30 {
         return false;
     }
-    method_decorated(ws, at)
+    method_decorated(ws, notes, at)
 }
 
 // The same of a method or constructor.
-fn method_decorated(ws: &[u32], at: usize) -> bool
-    requires { ⌜ labelAt (now ws) at .kind ≡ 30 ⌝ }
+fn method_decorated(ws: &[u32], notes: &[u32], at: usize) -> bool
+    requires { ⌜ Ends (now ws) (now notes) 0 × (labelAt (now ws) at .kind ≡ 30) ⌝ }
     ensures { λ r. ⌜ r ≡ isDecoratedMember (labelAt (now (ws .entry)) at) (kidsAt (now (ws .entry)) at) ⌝ }
 {
     if is_constructor(word_at(ws, at)) {
@@ -235,7 +246,7 @@ fn method_decorated(ws: &[u32], at: usize) -> bool
     if decorated(ws, at) {
         return true;
     }
-    class_method_parameter_is_decorated(ws, at)
+    class_method_parameter_is_decorated(ws, notes, at)
 }
 
 // Rule 5: does a key of this kind give a name as it stands?
@@ -261,26 +272,29 @@ pub fn is_plain_key(kind: u32) -> bool
 }
 
 // Rule 5: does the key of the member at `at`?
-pub fn plain_key(ws: &[u32], at: usize) -> bool
+pub fn plain_key(ws: &[u32], notes: &[u32], at: usize) -> bool
+    requires { ⌜ Ends (now ws) (now notes) 0 ⌝ }
     ensures { λ r. ⌜ r ≡ hasPlainKey (kidsAt (now (ws .entry)) at) ⌝ }
 {
-    is_plain_key(words::kind_of(second_word(ws, at)))
+    is_plain_key(words::kind_of(second_word(ws, notes, at)))
 }
 
 // ---- rows of elements: k of them, the first at `at`
 
 // Is the element at `at` a constructor with a decorated parameter?
-fn is_decorated_constructor(ws: &[u32], at: usize) -> bool
+fn is_decorated_constructor(ws: &[u32], notes: &[u32], at: usize) -> bool
+    requires { ⌜ Ends (now ws) (now notes) 0 ⌝ }
     ensures { λ r. ⌜ r ≡ isDecoratedConstructor (labelAt (now (ws .entry)) at) (kidsAt (now (ws .entry)) at) ⌝ }
 {
     if is_constructor(word_at(ws, at)) {
-        return class_method_parameter_is_decorated(ws, at);
+        return class_method_parameter_is_decorated(ws, notes, at);
     }
     false
 }
 
 // Rule 6: has any constructor a decorated parameter?
-pub fn constructor_decorated(ws: &[u32], at: usize, k: usize) -> bool
+pub fn constructor_decorated(ws: &[u32], notes: &[u32], at: usize, k: usize) -> bool
+    requires { ⌜ Ends (now ws) (now notes) 0 ⌝ }
     ensures { λ r. ⌜ r ≡ constructorDecorated (takeF k (recordsAt (now (ws .entry)) at)) ⌝ }
 {
     let mut q = at;
@@ -289,10 +303,10 @@ pub fn constructor_decorated(ws: &[u32], at: usize, k: usize) -> bool
         if ws.len() <= q {
             return false;
         }
-        if is_decorated_constructor(ws, q) {
+        if is_decorated_constructor(ws, notes, q) {
             return true;
         }
-        q = records::skip(ws, q, 1);
+        q = records::behind(ws, notes, q, 1);
         i += 1;
     }
     false
@@ -313,7 +327,8 @@ fn is_static(w: u32) -> bool
 }
 
 // Rule 8: is there a static property or a static block?
-pub fn has_static(ws: &[u32], at: usize, k: usize) -> bool
+pub fn has_static(ws: &[u32], notes: &[u32], at: usize, k: usize) -> bool
+    requires { ⌜ Ends (now ws) (now notes) 0 ⌝ }
     ensures { λ r. ⌜ r ≡ hasStatic (takeF k (recordsAt (now (ws .entry)) at)) ⌝ }
 {
     let mut q = at;
@@ -325,14 +340,15 @@ pub fn has_static(ws: &[u32], at: usize, k: usize) -> bool
         if is_static(word_at(ws, q)) {
             return true;
         }
-        q = records::skip(ws, q, 1);
+        q = records::behind(ws, notes, q, 1);
         i += 1;
     }
     false
 }
 
 // The number of elements before the first constructor, or k where there is none.
-pub fn first_constructor(ws: &[u32], at: usize, k: usize) -> usize
+pub fn first_constructor(ws: &[u32], notes: &[u32], at: usize, k: usize) -> usize
+    requires { ⌜ Ends (now ws) (now notes) 0 ⌝ }
     ensures { λ r. ⌜ r ≡ before constructs k (recordsAt (now (ws .entry)) at) ⌝ }
 {
     let mut q = at;
@@ -344,25 +360,27 @@ pub fn first_constructor(ws: &[u32], at: usize, k: usize) -> usize
         if is_constructor(word_at(ws, q)) {
             return i;
         }
-        q = records::skip(ws, q, 1);
+        q = records::behind(ws, notes, q, 1);
         i += 1;
     }
     k
 }
 
 // Rule 7: has the first constructor a decorated parameter?
-pub fn first_constructor_decorated(ws: &[u32], at: usize, k: usize) -> bool
+pub fn first_constructor_decorated(ws: &[u32], notes: &[u32], at: usize, k: usize) -> bool
+    requires { ⌜ Ends (now ws) (now notes) 0 ⌝ }
     ensures { λ r. ⌜ r ≡ not (isEmpty (firstConstructor (takeF k (recordsAt (now (ws .entry)) at)))) ⌝ }
 {
-    let j = first_constructor(ws, at, k);
+    let j = first_constructor(ws, notes, at, k);
     if k <= j {
         return false;
     }
-    class_method_parameter_is_decorated(ws, records::skip(ws, at, j))
+    class_method_parameter_is_decorated(ws, notes, records::behind(ws, notes, at, j))
 }
 
 // The number of decorated members.
-pub fn call_count(ws: &[u32], at: usize, k: usize) -> usize
+pub fn call_count(ws: &[u32], notes: &[u32], at: usize, k: usize) -> usize
+    requires { ⌜ Ends (now ws) (now notes) 0 ⌝ }
     ensures { λ r. ⌜ r ≡ countCalled (takeF k (recordsAt (now (ws .entry)) at)) ⌝ }
 {
     let mut q = at;
@@ -372,10 +390,10 @@ pub fn call_count(ws: &[u32], at: usize, k: usize) -> usize
         if ws.len() <= q {
             return n;
         }
-        if member_decorated(ws, q) {
+        if member_decorated(ws, notes, q) {
             n += 1;
         }
-        q = records::skip(ws, q, 1);
+        q = records::behind(ws, notes, q, 1);
         i += 1;
     }
     n
@@ -384,10 +402,11 @@ pub fn call_count(ws: &[u32], at: usize, k: usize) -> usize
 // ---- classes; `at` is the place of the 26
 
 // The symbol of the id, or NONE.
-pub fn class_id(ws: &[u32], at: usize) -> u32
+pub fn class_id(ws: &[u32], notes: &[u32], at: usize) -> u32
+    requires { ⌜ Ends (now ws) (now notes) 0 ⌝ }
     ensures { λ r. ⌜ (optOf r ≡ idOf (kidsAt (now (ws .entry)) at)) × (r ≤ 67108864) ⌝ }
 {
-    let w = second_word(ws, at);
+    let w = second_word(ws, notes, at);
     if words::kind_of(w) != 27 {
         return NONE;
     }
@@ -405,34 +424,37 @@ pub fn is_live(ws: &[u32], at: usize) -> bool
 }
 
 // Rule 6: is the class decorated?
-pub fn check_class_has_decorated(ws: &[u32], at: usize) -> bool
+pub fn check_class_has_decorated(ws: &[u32], notes: &[u32], at: usize) -> bool
+    requires { ⌜ Ends (now ws) (now notes) 0 ⌝ }
     ensures { λ r. ⌜ r ≡ isDecorated (kidsAt (now (ws .entry)) at) ⌝ }
 {
     if decorated(ws, at) {
         return true;
     }
-    let b = body(ws, at);
-    constructor_decorated(ws, b + 1, children_at(ws, b))
+    let b = body(ws, notes, at);
+    constructor_decorated(ws, notes, b + 1, children_at(ws, b))
 }
 
 // Has the class decorators, or its first constructor a decorated parameter?
-pub fn class_decorated_first(ws: &[u32], at: usize) -> bool
+pub fn class_decorated_first(ws: &[u32], notes: &[u32], at: usize) -> bool
+    requires { ⌜ Ends (now ws) (now notes) 0 ⌝ }
     ensures { λ r. ⌜ r ≡ isDecoratedClass (kidsAt (now (ws .entry)) at) ⌝ }
 {
     if decorated(ws, at) {
         return true;
     }
-    let b = body(ws, at);
-    first_constructor_decorated(ws, b + 1, children_at(ws, b))
+    let b = body(ws, notes, at);
+    first_constructor_decorated(ws, notes, b + 1, children_at(ws, b))
 }
 
 // ---- rule 9: a private-in test, a 19, anywhere inside a decorator
 
 // Is there a word of a kind in the k records at `at`?
-pub fn contains(ws: &[u32], at: usize, k: usize, kind: u32) -> bool
+pub fn contains(ws: &[u32], notes: &[u32], at: usize, k: usize, kind: u32) -> bool
+    requires { ⌜ Ends (now ws) (now notes) 0 ⌝ }
     ensures { λ r. ⌜ r ≡ anyF (is kind) (takeF k (recordsAt (now (ws .entry)) at)) ⌝ }
 {
-    let e = records::skip(ws, at, k);
+    let e = records::behind(ws, notes, at, k);
     let mut i = at;
     while i < e {
         if kind_at(ws, i) == kind {
@@ -444,15 +466,17 @@ pub fn contains(ws: &[u32], at: usize, k: usize, kind: u32) -> bool
 }
 
 // In the decorators of the record at `at`?
-fn private_in(ws: &[u32], at: usize) -> bool
+fn private_in(ws: &[u32], notes: &[u32], at: usize) -> bool
+    requires { ⌜ Ends (now ws) (now notes) 0 ⌝ }
     ensures { λ r. ⌜ r ≡ anyF (is 19) (decorators (kidsAt (now (ws .entry)) at)) ⌝ }
 {
     let d = decorators(ws, at);
-    contains(ws, d + 1, children_at(ws, d), 19)
+    contains(ws, notes, d + 1, children_at(ws, d), 19)
 }
 
 // In the decorators of one of the k parameters at `at`?
-fn private_in_any(ws: &[u32], at: usize, k: usize) -> bool
+fn private_in_any(ws: &[u32], notes: &[u32], at: usize, k: usize) -> bool
+    requires { ⌜ Ends (now ws) (now notes) 0 ⌝ }
     ensures { λ r. ⌜ r ≡ anyRow privateIn (takeF k (recordsAt (now (ws .entry)) at)) ⌝ }
 {
     let mut q = at;
@@ -461,56 +485,59 @@ fn private_in_any(ws: &[u32], at: usize, k: usize) -> bool
         if ws.len() <= q {
             return false;
         }
-        if private_in(ws, q) {
+        if private_in(ws, notes, q) {
             return true;
         }
-        q = records::skip(ws, q, 1);
+        q = records::behind(ws, notes, q, 1);
         i += 1;
     }
     false
 }
 
 // In those of a parameter of the method or constructor at `at`?
-fn private_in_parameters(ws: &[u32], at: usize) -> bool
+fn private_in_parameters(ws: &[u32], notes: &[u32], at: usize) -> bool
+    requires { ⌜ Ends (now ws) (now notes) 0 ⌝ }
     ensures { λ r. ⌜ r ≡ anyF (is 19) (ofParameters 0 (parametersOf (kidsAt (now (ws .entry)) at))) ⌝ }
 {
-    let p = parameters(ws, at);
-    private_in_any(ws, p + 1, children_at(ws, p))
+    let p = parameters(ws, notes, at);
+    private_in_any(ws, notes, p + 1, children_at(ws, p))
 }
 
 // In those of the method or constructor at `at` or of a parameter of it? A constructor has none of its own.
-fn private_in_method(ws: &[u32], at: usize) -> bool
-    requires { ⌜ labelAt (now ws) at .kind ≡ 30 ⌝ }
+fn private_in_method(ws: &[u32], notes: &[u32], at: usize) -> bool
+    requires { ⌜ Ends (now ws) (now notes) 0 × (labelAt (now ws) at .kind ≡ 30) ⌝ }
     ensures { λ r. ⌜ r ≡ privateInElement (labelAt (now (ws .entry)) at) (kidsAt (now (ws .entry)) at) ⌝ }
 {
     if is_constructor(word_at(ws, at)) {
-        return private_in_parameters(ws, at);
+        return private_in_parameters(ws, notes, at);
     }
-    if private_in(ws, at) {
+    if private_in(ws, notes, at) {
         return true;
     }
-    private_in_parameters(ws, at)
+    private_in_parameters(ws, notes, at)
 }
 
 // In those of the element at `at` or of a parameter of it?
-fn private_in_element(ws: &[u32], at: usize) -> bool
+fn private_in_element(ws: &[u32], notes: &[u32], at: usize) -> bool
+    requires { ⌜ Ends (now ws) (now notes) 0 ⌝ }
     ensures { λ r. ⌜ r ≡ privateInElement (labelAt (now (ws .entry)) at) (kidsAt (now (ws .entry)) at) ⌝ }
 {
     let k = kind_at(ws, at);
     if k == 30 {
-        return private_in_method(ws, at);
+        return private_in_method(ws, notes, at);
     }
     if k == 31 {
-        return private_in(ws, at);
+        return private_in(ws, notes, at);
     }
     if k == 32 {
-        return private_in(ws, at);
+        return private_in(ws, notes, at);
     }
     false
 }
 
 // In those of one of the k elements at `at`?
-fn private_in_elements(ws: &[u32], at: usize, k: usize) -> bool
+fn private_in_elements(ws: &[u32], notes: &[u32], at: usize, k: usize) -> bool
+    requires { ⌜ Ends (now ws) (now notes) 0 ⌝ }
     ensures { λ r. ⌜ r ≡ anyF (is 19) (ofElements (takeF k (recordsAt (now (ws .entry)) at))) ⌝ }
 {
     let mut q = at;
@@ -519,30 +546,32 @@ fn private_in_elements(ws: &[u32], at: usize, k: usize) -> bool
         if ws.len() <= q {
             return false;
         }
-        if private_in_element(ws, q) {
+        if private_in_element(ws, notes, q) {
             return true;
         }
-        q = records::skip(ws, q, 1);
+        q = records::behind(ws, notes, q, 1);
         i += 1;
     }
     false
 }
 
 // In those of the class at `at`, of its elements or of their parameters?
-pub fn has_private_in_expression(ws: &[u32], at: usize) -> bool
+pub fn has_private_in_expression(ws: &[u32], notes: &[u32], at: usize) -> bool
+    requires { ⌜ Ends (now ws) (now notes) 0 ⌝ }
     ensures { λ r. ⌜ r ≡ hasPrivateIn (kidsAt (now (ws .entry)) at) ⌝ }
 {
-    if private_in(ws, at) {
+    if private_in(ws, notes, at) {
         return true;
     }
-    let b = body(ws, at);
-    private_in_elements(ws, b + 1, children_at(ws, b))
+    let b = body(ws, notes, at);
+    private_in_elements(ws, notes, b + 1, children_at(ws, b))
 }
 
 // ---- refusal 7
 
 // Of the record at `at`.
-pub fn is_refused_7(ws: &[u32], at: usize) -> bool
+pub fn is_refused_7(ws: &[u32], notes: &[u32], at: usize) -> bool
+    requires { ⌜ Ends (now ws) (now notes) 0 ⌝ }
     ensures { λ r. ⌜ r ≡ isRefused7 (labelAt (now (ws .entry)) at) (kidsAt (now (ws .entry)) at) ⌝ }
 {
     if kind_at(ws, at) != 4 {
@@ -551,19 +580,20 @@ pub fn is_refused_7(ws: &[u32], at: usize) -> bool
     if !is_live(ws, at + 1) {
         return false;
     }
-    if !check_class_has_decorated(ws, at + 1) {
+    if !check_class_has_decorated(ws, notes, at + 1) {
         return false;
     }
-    !class_decorated_first(ws, at + 1)
+    !class_decorated_first(ws, notes, at + 1)
 }
 
 // Of any record of the words.
-pub fn refused_7(ws: &[u32]) -> bool
+pub fn refused_7(ws: &[u32], notes: &[u32]) -> bool
+    requires { ⌜ Ends (now ws) (now notes) 0 ⌝ }
     ensures { λ r. ⌜ r ≡ anyRecord isRefused7 (recordsAt (now (ws .entry)) 0) ⌝ }
 {
     let mut i = 0;
     while i < ws.len() {
-        if is_refused_7(ws, i) {
+        if is_refused_7(ws, notes, i) {
             return true;
         }
         i += 1;

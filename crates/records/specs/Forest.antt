@@ -168,14 +168,6 @@ module _ {A : Type 0} where
   count-size end = omega arith
   count-size (node a k r) = omega (arith, size-node a k r, count-size r)
 
-  -- nothing is left behind as many trees as there are
-  pub dropF-all : (n : ℕ) (f : Forest A) → countF f ≤ n → dropF n f ≡ end
-  unfolding countF dropF
-  dropF-all zero end h = refl
-  dropF-all zero (node a k r) h = absurd (omega arith)
-  dropF-all (suc n) end h = refl
-  dropF-all (suc n) (node a k r) h = dropF-all n r (omega arith)
-
   -- ---- maps and tests
 
   pub countF-map : (g : A → A) (f : Forest A) → countF (mapF g f) ≡ countF f

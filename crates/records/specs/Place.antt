@@ -6,7 +6,7 @@ use native.Mathlib.Nat.{zero-add, add-zero}
 use native.Mathlib.Omega.{arith}
 use lib.ListN.{length, getD}
 use Rattle.words.specs.Word.{kindOf, payloadOf, children}
-use Rattle.records.specs.Forest.{end, node, flat, size, takeF, dropF, appendF, size-node, size-append, size-take-drop, takeF-add, takeF-end, dropF-all, count-size}
+use Rattle.records.specs.Forest.{end, node, flat, size, takeF, dropF, appendF, size-node, size-append, size-take-drop, takeF-add, takeF-end}
 use Rattle.records.specs.Prefix.{stackAt, stackAt-node, stackAt-past, stackAt-drop, size-stackAt}
 use Rattle.records.specs.Label.{Label, Trees, arity, readAt, readFrom, length-read, getD-read, _∶_}
 
@@ -72,14 +72,6 @@ module _ (ws : List ℕ) where
   unfolding endOf
   end-high at k = omega (arith, size-take-drop k (recordsAt ws at), size-records at)
 
-  -- the end is reached where there are no more words than records to pass
-  pub end-all : (at k : ℕ) → at ≤ length ws → length ws - at ≤ k → endOf ws at k ≡ length ws
-  unfolding endOf
-  end-all at k h g =
-      let none : dropF k (recordsAt ws at) ≡ end = dropF-all k (recordsAt ws at) (omega (arith, count-size (recordsAt ws at), size-records at)) in
-      let zero : size (dropF k (recordsAt ws at)) ≡ 0 = ap size none ∙ (unfold size flat in refl) in
-      omega (arith, size-take-drop k (recordsAt ws at), size-records at, zero)
-
   -- what stands behind k records
   pub end-drop : (at k : ℕ) → dropF k (recordsAt ws at) ≡ recordsAt ws (endOf ws at k)
   unfolding recordsAt endOf
@@ -101,12 +93,6 @@ module _ (ws : List ℕ) where
       let none : size {A = Label} end ≡ 0 = unfold size flat in refl in
       let kids : endOf ws (at + 1) (arityAt ws at) ≡ at + 1 + size (kidsAt ws at) = unfold endOf kidsAt in refl in
       omega (arith, whole, ap size tree, size-node (labelAt ws at) (kidsAt ws at) end, none, kids)
-
-  -- one record and k others: the record's children and the others
-  pub end-more : (at k : ℕ) → at < length ws → endOf ws at (suc k) ≡ endOf ws (at + 1) (arityAt ws at + k)
-  end-more at k h =
-      let s : suc k ≡ 1 + k = omega arith in
-      ap (endOf ws at) s ∙ end-add at 1 k ∙ ap (λ (p : ℕ). endOf ws p k) (end-one at h) ∙ sym (end-add (at + 1) (arityAt ws at) k)
 
   -- what stands behind a record
   pub rest-place : (at : ℕ) → at < length ws → dropF (arityAt ws at) (recordsAt ws (at + 1)) ≡ recordsAt ws (endOf ws at 1)

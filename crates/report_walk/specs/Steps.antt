@@ -19,7 +19,7 @@ use Rattle.walk_laws.specs.Rows.{visitAt, fresh, kids-visit}
 use Rattle.walk_laws.specs.After.{keyAfter, mentioned, classAfter}
 use Rattle.walk_laws.specs.Roles.{role-4, role-20}
 use Rattle.walk_laws.specs.Kinds.{isElementKind, element-two, class-row-one, class-kids}
-use Rattle.counter.specs.Contract.{aroundOf, stateOf, aliasIn, elementsFrom, Counts}
+use Rattle.counter.specs.Contract.{aroundOf, stateOf, markIn, elementsFrom, Counts}
 use Rattle.counter.specs.declared.Scope.{Scope}
 use Rattle.counter.specs.declared.Count.{Count}
 use Rattle.counter.specs.Steps.{counts-low, counts-high, counts-within, ready-next, ready-behind, count-none, count-past, count-add, count-other, count-dropped, count-plain, count-member, count-expression, count-declared, count-live, kids-state, below-visit, below-kids, kids-one, arity-20, live-kids, id-kids, found, class-at, elements-at, dead-and, and-none, both-true, live-of}
@@ -180,15 +180,15 @@ module _ {ws notes : List ℕ} {at n pos : ℕ} (f : Asks ws notes at n pos) (h 
         ∙ below-words b false _ l (i ∙ sym (id-kids (f .ready) h a d kind)) (class-row-one ws (f .ready .whole) at h kind)) (c .wrote)
 
     search : (x : Bool) → x ≡ isDecorated (kidsAt ws (at + 1)) → isLive (takeF 1 (recordsAt ws (at + 1))) ≡ true → (t : State) →
-        classFresh x (idOf (kidsAt ws (at + 1))) (mentioned (idOf (kidsAt ws (at + 1))) (elementsFrom ws at n)) t ≡ classFresh x (idOf (kidsAt ws (at + 1))) (aliasIn (getD notes at 0)) t
+        classFresh x (idOf (kidsAt ws (at + 1))) (mentioned (idOf (kidsAt ws (at + 1))) (elementsFrom ws at n)) t ≡ classFresh x (idOf (kidsAt ws (at + 1))) (markIn (getD notes at 0)) t
     search true e v t = ap (λ (y : Bool). classFresh true (idOf (kidsAt ws (at + 1))) y t) (sym (found (f .ready) h a d kind (sym e) v))
     search false e v t = unfold classFresh in refl
 
     -- a live class: m is the counter once it has its symbols
     pub report-live : (b : Scope) {o o₁ : List ℕ} {r : Reported} (m : ℕ) {o₂ : List ℕ} (p : ℕ) → b .live ≡ true → optOf (b .id) ≡ idOf (kidsAt ws (at + 1)) → isLive (takeF 1 (recordsAt ws (at + 1))) ≡ true →
         Reports ws (at + 1) 1 b n 67108864 o pos o₁ r →
-        m ≡ classAfter (isDecorated (kidsAt ws (at + 1))) (optOf (b .id)) (aliasIn (getD notes at 0)) (stateOf (r .next) (r .default)) →
-        Wrote o₁ (r .pos) (words (classFresh (isDecorated (kidsAt ws (at + 1))) (optOf (b .id)) (aliasIn (getD notes at 0)) (stateOf (r .next) (r .default)))) o₂ p →
+        m ≡ classAfter (isDecorated (kidsAt ws (at + 1))) (optOf (b .id)) (markIn (getD notes at 0)) (stateOf (r .next) (r .default)) →
+        Wrote o₁ (r .pos) (words (classFresh (isDecorated (kidsAt ws (at + 1))) (optOf (b .id)) (markIn (getD notes at 0)) (stateOf (r .next) (r .default)))) o₂ p →
         Reports ws at 1 a n d o pos o₂ (record { at = r .at; pos = p; next = m; default = d })
     report-live b {o} {r = r} m p l i v c e w =
         let ck : Trees = kidsAt ws (at + 1) in
@@ -207,7 +207,7 @@ module _ {ws notes : List ℕ} {at n pos : ℕ} (f : Asks ws notes at n pos) (h 
         (ap (λ (g : Trees). classFresh (isDecorated (classKids kk)) (idOf (classKids kk)) (mentioned (idOf (classKids kk)) g) t) (elements-at (f .ready) h a d kind)
         ∙ ap (λ (g : Trees). classFresh (isDecorated g) (idOf g) (mentioned (idOf g) (elementsFrom ws at n)) t) (class-kids ws (f .ready .whole) at h kind)
         ∙ search (isDecorated ck) refl v t
-        ∙ ap (λ (x : Option ℕ). classFresh (isDecorated ck) x (aliasIn (getD notes at 0)) t) (sym i)))
+        ∙ ap (λ (x : Option ℕ). classFresh (isDecorated ck) x (markIn (getD notes at 0)) t) (sym i)))
         (wrote-then (c .wrote) w)
 
 -- ---- the symbols of a class and of a key, by their numbers

@@ -8,13 +8,14 @@ ghost use mathlib.Core.Bool.{true};
 ghost use lib.Dec.{eqb};
 ghost use lib.ListN.{length, getD};
 ghost use Rattle.records.specs.Label.{words};
+ghost use Rattle.records.specs.Ends.{Ends};
 ghost use Rattle.records.specs.Place.{labelAt, kidsAt};
 ghost use Rattle.output.specs.Overlay.{Wrote};
 ghost use Rattle.rewriting.specs.Parts.{hasPlainKey, isDecorated};
 ghost use Rattle.rewriting.specs.Visit.{classSymbol};
 ghost use Rattle.inspect.specs.Child.{optOf};
 ghost use Rattle.walk_laws.specs.Kinds.{isElementKind};
-ghost use Rattle.counter.specs.Contract.{stateOf, aliasIn};
+ghost use Rattle.counter.specs.Contract.{stateOf, markIn, Planned};
 ghost use Rattle.report_walk.specs.Contract.{keyFresh, classFresh, Asks, Reports};
 
 // The sorts of fresh symbols.
@@ -34,7 +35,7 @@ pub struct Reported {
     pub default: u32,
 }
 
-// The k records at `at`; the report's words go to `out` from `pos` on. notes: 1 at the place of each class statement whose class takes an alias.
+// The k records at `at`; the report's words go to `out` from `pos` on. notes: where the record at each place ends, and its mark.
 pub fn report_records(
     ws: &[u32],
     notes: &[u32],
@@ -182,7 +183,7 @@ fn report_element(
     if !a.live {
         return r;
     }
-    if !inspect::member_decorated(ws, at) {
+    if notes[at] % 2 != 1 {
         return r;
     }
     let u = Count {
@@ -191,10 +192,10 @@ fn report_element(
     };
     let t = counter::class_symbol(a, u);
     let p = put_class_symbol(a.id, u, out, r.pos);
-    let v = counter::key_symbol(ws, at, t);
+    let v = counter::key_symbol(ws, notes, at, t);
     Reported {
         at: r.at,
-        pos: put_key_symbol(ws, at, t.next, out, p),
+        pos: put_key_symbol(ws, notes, at, t.next, out, p),
         next: v.next,
         default: v.default,
     }
@@ -215,11 +216,18 @@ fn put_class_symbol(id: u32, s: Count, out: &mut [u32], pos: usize) -> usize
 }
 
 // Rule 5: the word of the symbol of the key of the member at `at`, if it takes one.
-fn put_key_symbol(ws: &[u32], at: usize, next: u32, out: &mut [u32], pos: usize) -> usize
-    requires { ⌜ (next < 67108864) × (pos < 67108864) ⌝ }
+fn put_key_symbol(
+    ws: &[u32],
+    notes: &[u32],
+    at: usize,
+    next: u32,
+    out: &mut [u32],
+    pos: usize,
+) -> usize
+    requires { ⌜ (next < 67108864) × (pos < 67108864) × Ends (now ws) (now notes) 0 ⌝ }
     ensures { λ r. ⌜ Wrote (now (out .entry)) pos (words (keyFresh (hasPlainKey (kidsAt (now (ws .entry)) at)) next)) (now (out .exit)) r ⌝ }
 {
-    if inspect::plain_key(ws, at) {
+    if inspect::plain_key(ws, notes, at) {
         return pos;
     }
     output::put(out, pos, words::word_of(KEY, next))
@@ -237,7 +245,7 @@ fn report_class_statement(
     requires { ⌜ Asks (now ws) (now notes) at (s .next) pos × (at < length (now ws)) × (labelAt (now ws) at .kind ≡ 4) ⌝ }
     ensures { λ r. ⌜ Reports (now (ws .entry)) at 1 a (s .next) (s .default) (now (out .entry)) pos (now (out .exit)) r ⌝ }
 {
-    let id = inspect::class_id(ws, at + 1);
+    let id = inspect::class_id(ws, notes, at + 1);
     let live = inspect::is_live(ws, at + 1);
     let r = report_records(
         ws,
@@ -283,10 +291,10 @@ fn put_class_symbols(
     out: &mut [u32],
     pos: usize,
 ) -> usize
-    requires { ⌜ (at < length (now notes)) × (s .next + 1 < 67108864) × (at < 67108864) × (pos + 1 < 67108864) ⌝ }
-    ensures { λ r. ⌜ Wrote (now (out .entry)) pos (words (classFresh (isDecorated (kidsAt (now (ws .entry)) (at + 1))) (optOf id) (aliasIn (getD (now (notes .entry)) at 0)) (stateOf (s .next) (s .default)))) (now (out .exit)) r ⌝ }
+    requires { ⌜ Planned (now ws) (now notes) × (at + 1 < length (now ws)) × (labelAt (now ws) (at + 1) .kind ≡ 26) × (at < 67108864) × (s .next + 1 < 67108864) × (pos + 1 < 67108864) ⌝ }
+    ensures { λ r. ⌜ Wrote (now (out .entry)) pos (words (classFresh (isDecorated (kidsAt (now (ws .entry)) (at + 1))) (optOf id) (markIn (getD (now (notes .entry)) at 0)) (stateOf (s .next) (s .default)))) (now (out .exit)) r ⌝ }
 {
-    if !inspect::check_class_has_decorated(ws, at + 1) {
+    if notes[at + 1] % 2 != 1 {
         return pos;
     }
     if id == NONE {

@@ -7,6 +7,7 @@ ghost use mathlib.Core.List.{List};
 ghost use Prim.Native.Nat.{ℕ, _≤_};
 ghost use lib.Dec.{leb};
 ghost use lib.ListN.{length, take};
+ghost use Rattle.records.specs.Ends.{Ends};
 ghost use Rattle.grammar.specs.Scan.{refusal, symbolsOf};
 ghost use Rattle.rewriting.specs.Answer.{turnedBack, moduleWords, rewriteAnswer, rewriteLent};
 ghost use Rattle.rewriting.specs.DemandWords.{DemandWords};
@@ -22,7 +23,8 @@ pub struct Answer {
     pub fresh: u32,
 }
 
-// Rewrites the module in `ws`; the answer's words go to the start of `out`. A short module takes short notes, which are cleared sooner.
+// Rewrites the module in `ws`; the answer's words go to the start of `out`. A module takes notes of one of three sizes: short ones are cleared
+// sooner.
 pub fn rewrite(ws: &[u32], out: &mut [u32]) -> Answer
     ensures numbers { λ r. ⌜ numbersOf r ≡ rewriteAnswer (now (ws .entry)) (now (out .entry)) ⌝ }
     ensures lent { λ r. ⌜ now (out .exit) ≡ rewriteLent (now (ws .entry)) (now (out .entry)) ⌝ }
@@ -30,6 +32,10 @@ pub fn rewrite(ws: &[u32], out: &mut [u32]) -> Answer
 {
     if ws.len() <= 64 {
         let mut notes = [0u32; 64];
+        return rewrite_by(ws, &mut notes, out);
+    }
+    if ws.len() <= 512 {
+        let mut notes = [0u32; 512];
         return rewrite_by(ws, &mut notes, out);
     }
     let mut notes = [0u32; 4096];
@@ -43,7 +49,7 @@ fn rewrite_by(ws: &[u32], notes: &mut [u32], out: &mut [u32]) -> Answer
     ensures lent { λ r. ⌜ now (out .exit) ≡ rewriteLent (now (ws .entry)) (now (out .entry)) ⌝ }
     ensures demand { λ r. ⌜ (r .code ≡ 0 → DemandWords (now (ws .entry)) (take (r .written) (now (out .exit)))) ⌝ }
 {
-    let v = turned_back(ws);
+    let v = turned_back_by(ws, notes);
     if v != 0 {
         return Answer {
             code: v,
@@ -71,22 +77,32 @@ fn rewrite_by(ws: &[u32], notes: &mut [u32], out: &mut [u32]) -> Answer
 pub fn turned_back(ws: &[u32]) -> u32
     ensures { λ r. ⌜ r ≡ turnedBack (now (ws .entry)) ⌝ }
 {
+    let mut notes = [0u32; 4096];
+    turned_back_by(ws, &mut notes)
+}
+
+// `turned_back` with the notes lent, for `rewrite_by` and for `symbol_report`; with 0 they say where the record at each place ends.
+pub fn turned_back_by(ws: &[u32], notes: &mut [u32]) -> u32
+    requires { ⌜ (refusal (now ws) ≡ 0 → length (now ws) ≤ length (now notes)) ⌝ }
+    ensures { λ r. ⌜ (r ≡ turnedBack (now (ws .entry))) × (r ≡ 0 → Ends (now (ws .entry)) (now (notes .exit)) 0) × (length (now (notes .exit)) ≡ length (now (notes .entry))) ⌝ }
+{
     let v = validation::number(validation::validate(ws));
     if v != 0 {
         return v;
     }
-    if inspect::refused_7(ws) {
+    records::find_ends(ws, notes);
+    if inspect::refused_7(ws, notes) {
         return 7;
     }
     0
 }
 
-// What is noted of each place of the words: whether its class takes an alias, how many fresh symbols its record takes, where it ends.
+// What else is noted of each place of the words: whether its class takes an alias, how many fresh symbols its record takes, whether that may change.
 fn annotate(ws: &[u32], notes: &mut [u32])
-    requires { ⌜ (refusal (now ws) ≡ 0) × (length (now ws) ≤ length (now notes)) ⌝ }
+    requires { ⌜ (refusal (now ws) ≡ 0) × Ends (now ws) (now notes) 0 ⌝ }
     ensures { λ r. ⌜ Planned (now (ws .entry)) (now (notes .exit)) × Annotated (now (ws .entry)) (now (notes .exit)) 0 × (length (now (notes .exit)) ≡ length (now (notes .entry))) ⌝ }
 {
-    alias_table::find_aliases(ws, notes);
+    mark_table::find_marks(ws, notes);
     count_table::find_counts(ws, notes, inspect::payload_at(ws, 1));
 }
 

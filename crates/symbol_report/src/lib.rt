@@ -14,13 +14,18 @@ ghost use Rattle.counter.specs.Contract.{Planned};
 ghost use Rattle.rewriter.specs.Numbers.{numbersOf};
 ghost use Rattle.symbol_report.specs.Result.{WritesReport};
 
-// Writes the report of the module in `ws` to the start of `out`. The order of its words is free. A short module takes short notes, which are cleared sooner.
+// Writes the report of the module in `ws` to the start of `out`. The order of its words is free. A module takes notes of one of three sizes: short
+// ones are cleared sooner.
 pub fn report(ws: &[u32], out: &mut [u32]) -> Answer
     ensures numbers { λ r. ⌜ numbersOf r ≡ reportAnswer (now (ws .entry)) (now (out .entry)) ⌝ }
     ensures lent { λ r. ⌜ ReportLent (now (ws .entry)) (now (out .entry)) (now (out .exit)) ⌝ }
 {
     if ws.len() <= 64 {
         let mut notes = [0u32; 64];
+        return report_by(ws, &mut notes, out);
+    }
+    if ws.len() <= 512 {
+        let mut notes = [0u32; 512];
         return report_by(ws, &mut notes, out);
     }
     let mut notes = [0u32; 4096];
@@ -33,7 +38,7 @@ fn report_by(ws: &[u32], notes: &mut [u32], out: &mut [u32]) -> Answer
     ensures numbers { λ r. ⌜ numbersOf r ≡ reportAnswer (now (ws .entry)) (now (out .entry)) ⌝ }
     ensures lent { λ r. ⌜ ReportLent (now (ws .entry)) (now (out .entry)) (now (out .exit)) ⌝ }
 {
-    let v = rewriter::turned_back(ws);
+    let v = rewriter::turned_back_by(ws, notes);
     if v != 0 {
         return Answer {
             code: v,
@@ -41,7 +46,7 @@ fn report_by(ws: &[u32], notes: &mut [u32], out: &mut [u32]) -> Answer
             fresh: 0,
         };
     }
-    alias_table::find_aliases(ws, notes);
+    mark_table::find_marks(ws, notes);
     if !has_room(ws, notes, out.len()) {
         return Answer {
             code: 8,

@@ -14,7 +14,7 @@ use Rattle.inspect.specs.Child.{optOf}
 use Rattle.inspect.specs.Class.{countCalled}
 use Rattle.walk_laws.specs.Written.{written}
 use Rattle.walk_laws.specs.ClassPlan.{planOf, under, optional, blockWords, isSome, one, rk, plan, queue}
-use Rattle.counter.specs.Contract.{stateOf, aliasIn}
+use Rattle.counter.specs.Contract.{stateOf, markIn}
 use Rattle.counter.specs.declared.Scope.{Scope}
 use Rattle.counter.specs.declared.Count.{Count}
 use Rattle.transform.specs.Contract.{wordBelow, wordsOf, callsAt, kidsHere}
@@ -87,9 +87,9 @@ pub record PlanFrom (ws notes : List ℕ) (at : ℕ) (s : Count) (g : ClassPlan)
   pub private : g .private ≡ hasPrivateIn (kidsAt ws (at + 1))
   pub fixed : g .fixed ≡ hasStatic (elementsOf (kidsAt ws (at + 1)))
   pub calls : g .calls ≡ countCalled (elementsOf (kidsAt ws (at + 1)))
-  pub outer : g .decorated ≡ true → g .outer ≡ planOf true (optOf (g .id)) (stateOf (s .next) (s .default)) (aliasIn (getD notes at 0)) .outer
-  pub inner : optOf (g .inner) ≡ planOf (g .decorated) (optOf (g .id)) (stateOf (s .next) (s .default)) (aliasIn (getD notes at 0)) .inner
-  pub alias : optOf (g .alias) ≡ planOf (g .decorated) (optOf (g .id)) (stateOf (s .next) (s .default)) (aliasIn (getD notes at 0)) .alias
+  pub outer : g .decorated ≡ true → g .outer ≡ planOf true (optOf (g .id)) (stateOf (s .next) (s .default)) (markIn (getD notes at 0)) .outer
+  pub inner : optOf (g .inner) ≡ planOf (g .decorated) (optOf (g .id)) (stateOf (s .next) (s .default)) (markIn (getD notes at 0)) .inner
+  pub alias : optOf (g .alias) ≡ planOf (g .decorated) (optOf (g .id)) (stateOf (s .next) (s .default)) (markIn (getD notes at 0)) .alias
   pub sizes : (g .id ≤ 67108864) × (g .inner ≤ 67108864) × (g .alias ≤ 67108864) × (g .decorated ≡ true → g .outer < 67108864)
 
 -- the same against the definition; n: the counter in front of the statement

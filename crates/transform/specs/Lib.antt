@@ -3,6 +3,7 @@ pub mod Nest
 pub mod Contract
 pub mod ClassWords
 pub mod Leaves
+pub mod Marks
 pub mod Plans
 pub mod Steps
 pub mod StepsClasses

@@ -29,7 +29,7 @@ use Rattle.walk_laws.specs.First.{elements-row}
 use Rattle.walk_laws.specs.Calls.{symbolOf, call-none, call-count, calls-more}
 use Rattle.walk_laws.specs.ClassPlan.{Plan, either, decoratedPlan, planOf, rk, scope, bodyAt, atBody, atEnd, els, queue, plan}
 use Rattle.walk_laws.specs.ClassFacts.{body-in, body-kind, own-elements, elements-visited}
-use Rattle.counter.specs.Contract.{aroundOf, stateOf, aliasIn, Below, elementsFrom, Ready, Counts}
+use Rattle.counter.specs.Contract.{aroundOf, stateOf, markIn, Below, elementsFrom, Ready, Counts}
 use Rattle.counter.specs.Steps.{below-more, counts-high, counts-within}
 use Rattle.counter.specs.declared.Scope.{Scope}
 use Rattle.counter.specs.declared.Count.{Count}
@@ -202,7 +202,7 @@ module _ (m : Bool) (n d : ℕ) (g : ClassPlan) (room : n + 1 < 67108864) (few :
 -- k: its elements
 pub plan-from : {ws notes : List ℕ} {at : ℕ} {s : Count} {g : ClassPlan} (k : Trees) → k ≡ elementsOf (kidsAt ws (at + 1)) →
     optOf (g .id) ≡ idOf (kidsAt ws (at + 1)) → g .decorated ≡ isDecorated (kidsAt ws (at + 1)) → g .private ≡ hasPrivateIn (kidsAt ws (at + 1)) → g .fixed ≡ hasStatic k → g .calls ≡ countCalled k →
-    FoundSymbols (aliasIn (getD notes at 0)) (s .next) (s .default) g → PlanFrom ws notes at s g
+    FoundSymbols (markIn (getD notes at 0)) (s .next) (s .default) g → PlanFrom ws notes at s g
 plan-from k e i d p x c f = record {
   id = i;
   decorated = d;
@@ -307,19 +307,19 @@ module _ {ws notes : List ℕ} {at n : ℕ} (f : Ready ws notes at n) (h : at < 
       subst (λ (m : ℕ). m ≤ 67108864) (number-of (r .default)) (below-le (r .next) (optOf (r .default)) (omega (arith, plan-next)) b)
 
   -- the table has rule 6's search
-  search : isDecorated (rk ws at) ≡ true → aliasIn (getD notes at 0) ≡ mentioned (idOf (rk ws at)) (els ws at n)
+  search : isDecorated (rk ws at) ≡ true → markIn (getD notes at 0) ≡ mentioned (idOf (rk ws at)) (els ws at n)
   unfolding rk
   search e =
       f .planned .right at n h kind live e (f .ids (at + 1) (class-kind ws (f .whole) at h kind))
       ∙ ap (mentioned (idOf (kidsAt ws (at + 1)))) (elements-from ws (f .whole) at h kind n)
 
   module _ {g : ClassPlan} (p : PlanFrom ws notes at (record { next = r .next; default = r .default }) g) where
-    planned : planOf (g .decorated) (optOf (g .id)) (stateOf (r .next) (r .default)) (aliasIn (getD notes at 0)) ≡ plan ws at n
+    planned : planOf (g .decorated) (optOf (g .id)) (stateOf (r .next) (r .default)) (markIn (getD notes at 0)) ≡ plan ws at n
     unfolding plan
     planned =
         let ids : optOf (g .id) ≡ idOf (rk ws at) = unfold rk in p .id in
         let dec : g .decorated ≡ isDecorated (rk ws at) = unfold rk in p .decorated in
-        cc (ids, dec, sym end-state) ∙ plan-search (isDecorated (rk ws at)) (idOf (rk ws at)) (atEnd ws at n) (aliasIn (getD notes at 0)) (mentioned (idOf (rk ws at)) (els ws at n)) search
+        cc (ids, dec, sym end-state) ∙ plan-search (isDecorated (rk ws at)) (idOf (rk ws at)) (atEnd ws at n) (markIn (getD notes at 0)) (mentioned (idOf (rk ws at)) (els ws at n)) search
 
     pub plans : Plans ws at n g
     plans = record {
@@ -328,7 +328,7 @@ module _ {ws notes : List ℕ} {at n : ℕ} (f : Ready ws notes at n) (h : at < 
       private = unfold rk in p .private;
       fixed = unfold rk in p .fixed;
       calls = p .calls ∙ (unfold rk in calls-queued ws (f .whole) at h kind n);
-      outer = λ e. p .outer e ∙ ap (λ (b : Bool). planOf b (optOf (g .id)) (stateOf (r .next) (r .default)) (aliasIn (getD notes at 0)) .outer) (sym e) ∙ ap (λ (x : Plan). x .outer) planned;
+      outer = λ e. p .outer e ∙ ap (λ (b : Bool). planOf b (optOf (g .id)) (stateOf (r .next) (r .default)) (markIn (getD notes at 0)) .outer) (sym e) ∙ ap (λ (x : Plan). x .outer) planned;
       inner = p .inner ∙ ap (λ (x : Plan). x .inner) planned;
       alias = p .alias ∙ ap (λ (x : Plan). x .alias) planned;
       sizes = p .sizes;

@@ -14,6 +14,7 @@ ghost use lib.ListN.{length, getD, replicate};
 ghost use Rattle.words.specs.Word.{bit0, bit2};
 ghost use Rattle.records.specs.Forest.{takeF, countF, size};
 ghost use Rattle.records.specs.Label.{is, bit, _∶_};
+ghost use Rattle.records.specs.Ends.{Ends};
 ghost use Rattle.records.specs.Place.{recordsAt, labelAt, arityAt, kidsAt, endOf};
 ghost use Rattle.output.specs.Overlay.{Wrote};
 ghost use Rattle.grammar.specs.Grammar.{element};
@@ -28,7 +29,7 @@ ghost use Rattle.walk_laws.specs.Kinds.{isElementKind};
 ghost use Rattle.walk_laws.specs.Members.{parametersWords};
 ghost use Rattle.walk_laws.specs.Calls.{symbolOf, prefixWords, nameWord, argumentWords, entries};
 ghost use Rattle.walk_laws.specs.ClassPlan.{optional, one, exportWords, ds, classWords, queueWords, queueCount, atBody, bodyAt};
-ghost use Rattle.counter.specs.Contract.{aroundOf, stateOf, aliasIn, Below, Ready, Annotated};
+ghost use Rattle.counter.specs.Contract.{aroundOf, stateOf, markIn, Planned, Below, Ready, Annotated};
 ghost use Rattle.transform.specs.Nest.{nestAt};
 ghost use Rattle.transform.specs.Contract.{wordBelow, wordsOf, stateIn, hereAt, callsAt, afterAt, kidsHere, Asks, Moved, Emitted, Queues, behindWords, memberWords, takesKey};
 ghost use Rattle.transform.specs.Copies.{Copies, Copied};
@@ -389,7 +390,7 @@ fn declared(
     requires { ⌜ Asks (now ws) (now notes) at 1 (s .next) c pos (size (hereAt (now ws) at 1 a s)) × (at < length (now ws)) × (labelAt (now ws) at .kind ≡ 4) × (isLive (takeF 1 (recordsAt (now ws) (at + 1))) ≡ false) ⌝ }
     ensures { λ r. ⌜ Emitted (now (ws .entry)) at 1 a s c (now (out .entry)) pos (now (out .exit)) r ⌝ }
 {
-    let id = inspect::class_id(ws, at + 1);
+    let id = inspect::class_id(ws, notes, at + 1);
     let p = put(
         c,
         inspect::kind_at(ws, at),
@@ -445,7 +446,7 @@ fn member(
         pos,
     );
     let p2 = put(c, 28, 0, out, p1);
-    let p3 = key_assignment(ws, at, a, whole.next, c, out, p2);
+    let p3 = key_assignment(ws, notes, at, a, whole.next, c, out, p2);
     let p4 = bare(ws, notes, at, a, s, c, out, p3);
     Went {
         at: whole.at,
@@ -459,6 +460,7 @@ fn member(
 // Rule 5: the assignment to the symbol of a computed key; it was the last one taken before `next`.
 fn key_assignment(
     ws: &[u32],
+    notes: &[u32],
     at: usize,
     a: Scope,
     next: u32,
@@ -466,16 +468,16 @@ fn key_assignment(
     out: &mut [u32],
     pos: usize,
 ) -> usize
-    requires { ⌜ StackReady c × (pos < 4294967296) × (next ≤ 67108864) × (takesKey (now ws) at a ≡ true → 1 ≤ next) ⌝ }
+    requires { ⌜ StackReady c × (pos < 4294967296) × (next ≤ 67108864) × (takesKey (now ws) at a ≡ true → 1 ≤ next) × Planned (now ws) (now notes) × (at < length (now ws)) × (isElementKind (labelAt (now ws) at .kind) ≡ true) × (at < 67108864) ⌝ }
     ensures { λ r. ⌜ Wrote (now (out .entry)) pos (cond (takesKey (now (ws .entry)) at a) (wordBelow c 18 (next - 1) ∷ []) []) (now (out .exit)) r ⌝ }
 {
     if !a.live {
         return pos;
     }
-    if !inspect::member_decorated(ws, at) {
+    if notes[at] % 2 != 1 {
         return pos;
     }
-    if inspect::plain_key(ws, at) {
+    if inspect::plain_key(ws, notes, at) {
         return pos;
     }
     put(c, 18, next - 1, out, pos)
@@ -707,7 +709,7 @@ fn call(
     ensures { λ r. ⌜ Queues (now (ws .entry)) at 1 a s c (now (out .entry)) pos (now (out .exit)) r ⌝ }
 {
     let r = counter::count_record(ws, notes, at, a, s);
-    if !inspect::member_decorated(ws, at) {
+    if notes[at] % 2 != 1 {
         return Went {
             at: r.at,
             pos,
@@ -722,6 +724,7 @@ fn call(
     put(c, 16, e.count, out, p2);
     let p3 = arguments(
         ws,
+        notes,
         at,
         a,
         Count {
@@ -744,6 +747,7 @@ fn call(
 // Prefix, name and descriptor of a call; s is the state behind the member.
 fn arguments(
     ws: &[u32],
+    notes: &[u32],
     at: usize,
     a: Scope,
     s: Count,
@@ -751,7 +755,7 @@ fn arguments(
     out: &mut [u32],
     pos: usize,
 ) -> usize
-    requires { ⌜ StackReady c × (pos + 4 < 4294967296) × (at < 4294967296) × (symbolOf (optOf (a .id)) (optOf (s .default)) < 67108864) × ((a .id < 67108864) ⊎ (s .default < 67108864)) × (s .next ≤ 67108864) × (hasPlainKey (kidsAt (now ws) at) ≡ false → 1 ≤ s .next) ⌝ }
+    requires { ⌜ StackReady c × (pos + 4 < 4294967296) × (at < 4294967296) × (symbolOf (optOf (a .id)) (optOf (s .default)) < 67108864) × ((a .id < 67108864) ⊎ (s .default < 67108864)) × (s .next ≤ 67108864) × (hasPlainKey (kidsAt (now ws) at) ≡ false → 1 ≤ s .next) × Ends (now ws) (now notes) 0 ⌝ }
     ensures { λ r. ⌜ Wrote (now (out .entry)) pos (argumentWords (wordBelow c) (now (ws .entry)) (aroundOf a) at (stateIn s)) (now (out .exit)) r ⌝ }
 {
     let p1 = get_class_member_prefix(
@@ -761,7 +765,7 @@ fn arguments(
         out,
         pos,
     );
-    let p2 = get_name_of_property_key(ws, at, s.next, c, out, p1);
+    let p2 = get_name_of_property_key(ws, notes, at, s.next, c, out, p1);
     put(c, descriptor(inspect::kind_at(ws, at)), 0, out, p2)
 }
 
@@ -813,16 +817,17 @@ fn create_prototype_member(symbol: u32, c: ClassStack, out: &mut [u32], pos: usi
 // Rule 5: the name of the member at `at`; next is the counter behind the member.
 fn get_name_of_property_key(
     ws: &[u32],
+    notes: &[u32],
     at: usize,
     next: u32,
     c: ClassStack,
     out: &mut [u32],
     pos: usize,
 ) -> usize
-    requires { ⌜ StackReady c × (pos < 4294967296) × (at < 4294967296) × (next ≤ 67108864) × (hasPlainKey (kidsAt (now ws) at) ≡ false → 1 ≤ next) ⌝ }
+    requires { ⌜ StackReady c × (pos < 4294967296) × (at < 4294967296) × (next ≤ 67108864) × (hasPlainKey (kidsAt (now ws) at) ≡ false → 1 ≤ next) × Ends (now ws) (now notes) 0 ⌝ }
     ensures { λ r. ⌜ Wrote (now (out .entry)) pos (nameWord (wordBelow c) (labelAt (now (ws .entry)) (endOf (now (ws .entry)) (at + 1) 1)) (hasPlainKey (kidsAt (now (ws .entry)) at)) (next - 1) ∷ []) (now (out .exit)) r ⌝ }
 {
-    let q = records::skip(ws, at + 1, 1);
+    let q = records::behind(ws, notes, at + 1, 1);
     let k = inspect::kind_at(ws, q);
     if k == 34 {
         return put(c, 10, inspect::payload_at(ws, q), out, pos);
@@ -830,7 +835,7 @@ fn get_name_of_property_key(
     if k == 35 {
         return put(c, 10, 0, out, pos);
     }
-    if inspect::plain_key(ws, at) {
+    if inspect::plain_key(ws, notes, at) {
         return put(c, k, inspect::payload_at(ws, q), out, pos);
     }
     put(c, 9, next - 1, out, pos)
@@ -1011,16 +1016,16 @@ pub struct ClassPlan {
 
 // The class of the statement at `at`; s is the state behind the class's children.
 fn plan(ws: &[u32], notes: &[u32], at: usize, s: Count) -> ClassPlan
-    requires { ⌜ (length (now ws) ≤ 4096) × (at < length (now ws)) × (length (now ws) ≤ length (now notes)) × (s .next + 1 < 67108864) × (s .default ≤ 67108864) ⌝ }
+    requires { ⌜ (length (now ws) ≤ 4096) × (at < length (now ws)) × Planned (now ws) (now notes) × (s .next + 1 < 67108864) × (s .default ≤ 67108864) × (at + 1 < length (now ws)) × (labelAt (now ws) (at + 1) .kind ≡ 26) ⌝ }
     ensures { λ r. ⌜ PlanFrom (now (ws .entry)) (now (notes .entry)) at s r ⌝ }
 {
-    let id = inspect::class_id(ws, at + 1);
-    let decorated = inspect::check_class_has_decorated(ws, at + 1);
-    let private = inspect::has_private_in_expression(ws, at + 1);
-    let b = inspect::body(ws, at + 1);
+    let id = inspect::class_id(ws, notes, at + 1);
+    let decorated = notes[at + 1] % 2 == 1;
+    let private = inspect::has_private_in_expression(ws, notes, at + 1);
+    let b = inspect::body(ws, notes, at + 1);
     let k = inspect::children_at(ws, b);
-    let fixed = inspect::has_static(ws, b + 1, k);
-    let calls = inspect::call_count(ws, b + 1, k) as u32;
+    let fixed = inspect::has_static(ws, notes, b + 1, k);
+    let calls = inspect::call_count(ws, notes, b + 1, k) as u32;
     if decorated {
         if id == NONE {
             return ClassPlan {
@@ -1060,7 +1065,7 @@ fn plan(ws: &[u32], notes: &[u32], at: usize, s: Count) -> ClassPlan
 // The alias of the class of the statement at `at`, whose inner symbol is n.
 fn alias_of(notes: &[u32], at: usize, n: u32) -> u32
     requires { ⌜ (at < length (now notes)) × (n + 1 < 67108864) ⌝ }
-    ensures { λ r. ⌜ (optOf r ≡ cond (aliasIn (getD (now (notes .entry)) at 0)) (optOf (n + 1)) (optOf 67108864)) × (r ≤ 67108864) ⌝ }
+    ensures { λ r. ⌜ (optOf r ≡ cond (markIn (getD (now (notes .entry)) at 0)) (optOf (n + 1)) (optOf 67108864)) × (r ≤ 67108864) ⌝ }
 {
     if notes[at] % 2 == 1 {
         return n + 1;
@@ -1112,7 +1117,7 @@ fn plan_at(ws: &[u32], notes: &[u32], at: usize, n: u32) -> ClassPlan
     requires { ⌜ Ready (now ws) (now notes) at n × (at < length (now ws)) × (labelAt (now ws) at .kind ≡ 4) × (isLive (takeF 1 (recordsAt (now ws) (at + 1))) ≡ true) × Annotated (now ws) (now notes) at ⌝ }
     ensures { λ r. ⌜ Plans (now (ws .entry)) at n r ⌝ }
 {
-    let id = inspect::class_id(ws, at + 1);
+    let id = inspect::class_id(ws, notes, at + 1);
     let r = counter::count_records(
         ws,
         notes,
@@ -1358,7 +1363,7 @@ fn elements(
         id: g.id,
     };
     let k = inspect::children_at(ws, b);
-    let j = inspect::first_constructor(ws, b + 1, k);
+    let j = inspect::first_constructor(ws, notes, b + 1, k);
     if !g.decorated {
         let r = records(ws, notes, b + 1, k, a, s, c, out, pos);
         return r.pos;
@@ -1558,7 +1563,7 @@ fn first_entries(
         id: g.id,
     };
     let k = inspect::children_at(ws, b);
-    let j = inspect::first_constructor(ws, b + 1, k);
+    let j = inspect::first_constructor(ws, notes, b + 1, k);
     if k <= j {
         return Queued { pos, count: 0 };
     }

@@ -41,6 +41,17 @@ element-kind l a =
     implied (eqb (rowOf (l .kind) .category) Element) (eqb (l .kind) 30 || eqb (l .kind) 31 || eqb (l .kind) 32 || eqb (l .kind) 33)
     (each-row isElement tt (l .kind) tt) (eq-eqb (rowOf (l .kind) .category) Element (allowed-row element (l .kind) (l .payload) (a .grammar) .0))
 
+-- a test that fails for every kind of element
+pub element-never : (f : ℕ → Bool) (l : Label) → f 30 ≡ false → f 31 ≡ false → f 32 ≡ false → f 33 ≡ false → Allowed element l → f (l .kind) ≡ false
+element-never f l a b c d e = go (eqb (l .kind) 30) refl (eqb (l .kind) 31) refl (eqb (l .kind) 32) refl (eqb (l .kind) 33) refl (element-kind l e)
+  where
+    go : (w : Bool) → eqb (l .kind) 30 ≡ w → (x : Bool) → eqb (l .kind) 31 ≡ x → (y : Bool) → eqb (l .kind) 32 ≡ y → (z : Bool) → eqb (l .kind) 33 ≡ z → T (w || x || y || z) → f (l .kind) ≡ false
+    go true p x q y r z s t = ap f (eqb-true _ 30 p) ∙ a
+    go false p true q y r z s t = ap f (eqb-true _ 31 q) ∙ b
+    go false p false q true r z s t = ap f (eqb-true _ 32 r) ∙ c
+    go false p false q false r true s t = ap f (eqb-true _ 33 s) ∙ d
+    go false p false q false r false s t = absurd t
+
 module _ (around : Around) (l : Label) (k : Trees) (s : State) where
   stays-alike : Stays l (visitOne around l k s .here) → Alike l (visitOne around l k s .here)
   stays-alike t = record { label = l; below = t .below; whole = t .whole; same = refl }

@@ -12,13 +12,13 @@ check-class-has-decorated-requires : tie.Need-check-class-has-decorated-requires
 check-class-has-decorated-requires c κs = search needs
 
 returns : tie.Need-returns
-returns c = sym (ap (λ (b : Bool). b && hasPrivateIn (kidsAt (c .before .before .before .args .ws .now) (c .before .before .before .args .at))) (sym (c .before .check-class-has-decorated .ensures) ∙ not-true _ (c .if1 .taken)))
+returns c = sym (ap (λ (b : Bool). b && hasPrivateIn (kidsAt (c .before .before .before .before .args .ws .now) (c .before .before .before .before .args .at))) (sym (c .before .check-class-has-decorated .ensures) ∙ not-true _ (c .if1 .taken)))
 
 has-private-in-expression-requires : tie.Need-has-private-in-expression-requires
 has-private-in-expression-requires c κs = search needs
 
 returns-2 : tie.Need-returns-2
-returns-2 c = c .has-private-in-expression .ensures ∙ sym (ap (λ (b : Bool). b && hasPrivateIn (kidsAt (c .before .before .before .before .args .ws .now) (c .before .before .before .before .args .at))) (sym (c .before .before .check-class-has-decorated .ensures) ∙ not-false _ (c .before .if1 .left)))
+returns-2 c = c .has-private-in-expression .ensures ∙ sym (ap (λ (b : Bool). b && hasPrivateIn (kidsAt (c .before .before .before .before .before .args .ws .now) (c .before .before .before .before .before .args .at))) (sym (c .before .before .check-class-has-decorated .ensures) ∙ not-false _ (c .before .if1 .left)))
 
 pub drops-decorators-spec : {M : Type 1} → statement M
 drops-decorators-spec =

@@ -19,7 +19,7 @@ mentions-requires : tie.Need-mentions-requires
 mentions-requires c κs = search needs
 
 returns : tie.Need-returns
-returns c = c .mentions .ensures ∙ ap (mentions (c .before .before .before .before .args .c)) (kids-row (c .before .before .before .before .args .ws .now) (c .before .before .body .result) (c .before .children-at .result) (c .before .children-at .ensures .0) ∙ c .before .before .body .ensures .0)
+returns c = c .mentions .ensures ∙ ap (mentions (c .before .before .before .before .before .args .c)) (kids-row (c .before .before .before .before .before .args .ws .now) (c .before .before .body .result) (c .before .children-at .result) (c .before .children-at .ensures .0) ∙ c .before .before .body .ensures .0)
 
 pub mentions-in-body-spec : {M : Type 1} → statement M
 mentions-in-body-spec =

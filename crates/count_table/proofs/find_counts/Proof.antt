@@ -31,7 +31,7 @@ mul-notes : tie.Need-mul-notes Inv-loop μ-loop
 mul-notes c = omega (arith, c .before .before .before .before .loop .inv .low, c .before .before .before .before .before .before .before .pre .few)
 
 slice-write-notes : tie.Need-slice-write-notes Inv-loop μ-loop
-slice-write-notes c = omega (arith, c .before .before .before .before .loop .inv .low, c .before .before .before .before .loop .inv .planned .long, c .before .before .before .loop-test .taken)
+slice-write-notes c = omega (arith, c .before .before .before .before .loop .inv .low, c .before .before .before .before .loop .inv .planned .ends .long, c .before .before .before .loop-test .taken)
 
 loop-less : tie.Need-loop-less Inv-loop μ-loop
 loop-less c = omega (arith, c .before .before .before .loop-test .taken)

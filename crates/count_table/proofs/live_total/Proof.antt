@@ -1,5 +1,6 @@
 -- `live_total`: the total of the class and the symbols of rule 6, by `live-leads`.
-use Rattle.count_table.specs.Note.{behind-walks, live-leads}
+use Rattle.count_table.specs.Note.{behind-walks, live-kind, live-leads}
+use Rattle.walk_laws.specs.Kinds.{class-inside, class-kind}
 use Rattle.counter.specs.Totals.{totals-few}
 use native.Mathlib.Omega.{arith}
 use borrow.Author.Needs.{needs}
@@ -10,7 +11,7 @@ add-class-id : tie.Need-add-class-id
 add-class-id c = search needs
 
 class-id-requires : tie.Need-class-id-requires
-class-id-requires c κs = search needs
+class-id-requires c κs = c .before .before .pre .0 .ready .planned .ends
 
 add-total-records : tie.Need-add-total-records
 add-total-records c = search needs
@@ -19,7 +20,10 @@ total-records-requires : tie.Need-total-records-requires
 total-records-requires c κs = behind-walks (c .before .before .before .pre .0)
 
 class-count-requires : tie.Need-class-count-requires
-class-count-requires c κs = search needs
+class-count-requires c κs =
+    let p = c .before .before .before .before .pre .0 in
+    let k = live-kind (c .before .before .before .before .args .ws .now) (c .before .before .before .before .args .at) (c .before .before .before .before .pre .1) .0 in
+    (p .ready .planned, class-inside (c .before .before .before .before .args .ws .now) (p .ready .whole) (c .before .before .before .before .args .at) (p .inside) k, class-kind (c .before .before .before .before .args .ws .now) (p .ready .whole) (c .before .before .before .before .args .at) (p .inside) k, omega (arith, p .inside, p .ready .few))
 
 add-t10 : tie.Need-add-t10
 add-t10 c = omega (arith, totals-few (behind-walks (c .before .before .before .before .before .before .pre .0)) (c .before .before .total-records .ensures), c .before .class-count .ensures .1)

@@ -6,10 +6,8 @@ use native.Mathlib.Omega.{arith}
 use borrow.Author.Needs.{needs}
 use borrow.Author.Tests.{not-true, not-false}
 use lib.ListN.{length}
-use Rattle.records.specs.Place.{labelAt}
-use Rattle.walk_laws.specs.Kinds.{isElementKind}
-use Rattle.counter.specs.Contract.{Totals, defaultFrom, hasDefault}
-use Rattle.counter.specs.Totals.{total-same, note-at, total-dead, total-quiet, total-other, total-none, total-past, total-add, near-total, walks-on, walks-next, totals-on, totals-few, Follows, follows, from-none}
+use Rattle.counter.specs.Contract.{Totals, isWalked, defaultFrom, hasDefault}
+use Rattle.counter.specs.Totals.{kinds-apart, total-same, note-at, total-dead, total-other, total-none, total-past, total-add, near-total, walks-on, walks-next, totals-on, totals-few, Follows, follows, from-none}
 use Prim.Native.Nat.{ℕ, _<_}
 use borrow.Fn.Kinds.{In}
 use borrow.Fn.PlainCycle.{Measures, is, falls, and}
@@ -22,7 +20,8 @@ use Rattle.counter.proofs.+total_record+total_records.Lts-total_records
 use Rattle.counter.proofs.default_from.Reads as default-from-reads
 use Rattle.counter.proofs.from_note.Reads as from-note-reads
 use Rattle.counter.proofs.has_default.Reads as has-default-reads
-use Rattle.counter.proofs.total_element.Reads as total-element-reads
+use Rattle.counter.proofs.is_walked.Reads as is-walked-reads
+use Rattle.counter.proofs.total_single.Reads as total-single-reads
 use Rattle.inspect.proofs.children_at.Reads as children-at-reads
 use Rattle.inspect.proofs.kind_at.Reads as kind-at-reads
 use Rattle.counter.proofs.+total_record+total_records.{statement}
@@ -59,7 +58,7 @@ total-records-below t =
     total-records.Pre
 
 abbrev total-record-uses : ℕ → total-record-lts.Claims
-total-record-uses t = (from-note-reads.Asked, from-note-reads.Learnt, kind-at-reads.Asked, kind-at-reads.Learnt, children-at-reads.Asked, children-at-reads.Learnt, total-records-below t, total-records.Post, total-element-reads.Asked, total-element-reads.Learnt)
+total-record-uses t = (from-note-reads.Asked, from-note-reads.Learnt, kind-at-reads.Asked, kind-at-reads.Learnt, is-walked-reads.Asked, is-walked-reads.Learnt, children-at-reads.Asked, children-at-reads.Learnt, total-records-below t, total-records.Post, total-single-reads.Asked, total-single-reads.Learnt)
 
 abbrev total-records-uses : ℕ → total-records-lts.Claims
 total-records-uses t = (has-default-reads.Asked, has-default-reads.Learnt, total-record-below t, total-record.Post, default-from-reads.Asked, default-from-reads.Learnt)
@@ -67,20 +66,8 @@ total-records-uses t = (has-default-reads.Asked, has-default-reads.Learnt, total
 total-record-mul-from-note : (t : ℕ) → total-record-lts.Need-mul-from-note (total-record-uses t) (total-record-at t) total-record.Post
 total-record-mul-from-note t c = omega (arith, c .before .before .before .before .pre .1 .1, c .before .before .before .before .pre .1 .0 .ready .few)
 
-total-record-shared-slice-read-from-note :
-    (t : ℕ) → total-record-lts.Need-shared-slice-read-from-note (
-      from-note-reads.Asked,
-      from-note-reads.Learnt,
-      kind-at-reads.Asked,
-      kind-at-reads.Learnt,
-      children-at-reads.Asked,
-      children-at-reads.Learnt,
-      total-records-below t,
-      total-records.Post,
-      total-element-reads.Asked,
-      total-element-reads.Learnt,
-    ) (total-record-at t) total-record.Post
-total-record-shared-slice-read-from-note t c = omega (arith, c .before .before .before .before .before .pre .1 .0 .ready .planned .long, c .before .before .before .before .before .pre .1 .1)
+total-record-shared-slice-read-from-note : (t : ℕ) → total-record-lts.Need-shared-slice-read-from-note (total-record-uses t) (total-record-at t) total-record.Post
+total-record-shared-slice-read-from-note t c = omega (arith, c .before .before .before .before .before .pre .1 .0 .ready .planned .ends .long, c .before .before .before .before .before .pre .1 .1)
 
 total-record-from-note-requires : (t : ℕ) → total-record-lts.Need-from-note-requires (total-record-uses t) (total-record-at t) total-record.Post
 total-record-from-note-requires t c κs = search needs
@@ -95,87 +82,31 @@ total-record-returns t c =
 total-record-kind-at-requires : (t : ℕ) → total-record-lts.Need-kind-at-requires (total-record-uses t) (total-record-at t) total-record.Post
 total-record-kind-at-requires t c κs = search needs
 
+total-record-is-walked-requires : (t : ℕ) → total-record-lts.Need-is-walked-requires (total-record-uses t) (total-record-at t) total-record.Post
+total-record-is-walked-requires t c κs = search needs
+
 total-record-add-total-records : (t : ℕ) → total-record-lts.Need-add-total-records (total-record-uses t) (total-record-at t) total-record.Post
-total-record-add-total-records t c = omega (arith, c .before .before .before .before .before .before .pre .1 .1, c .before .before .before .before .before .before .pre .1 .0 .ready .few)
+total-record-add-total-records t c = omega (arith, c .before .before .before .before .before .before .before .pre .1 .1, c .before .before .before .before .before .before .before .pre .1 .0 .ready .few)
 
 total-record-children-at-requires : (t : ℕ) → total-record-lts.Need-children-at-requires (total-record-uses t) (total-record-at t) total-record.Post
 total-record-children-at-requires t c κs = search needs
 
 total-record-total-records-requires : (t : ℕ) → total-record-lts.Need-total-records-requires (total-record-uses t) (total-record-at t) total-record.Post
-total-record-total-records-requires t c κs = (omega (arith, c .before .before .before .before .before .before .before .pre .0, c .before .before .before .before .before .before .before .pre .1 .1), walks-next (c .before .before .before .before .before .before .before .pre .1 .0) (c .before .before .before .before .before .before .before .pre .1 .1))
-
-total-record-add-total-records-2 : (t : ℕ) → total-record-lts.Need-add-total-records-2 (total-record-uses t) (total-record-at t) total-record.Post
-total-record-add-total-records-2 t c = omega (arith, c .before .before .before .before .before .before .pre .1 .1, c .before .before .before .before .before .before .pre .1 .0 .ready .few)
-
-total-record-children-at-requires-2 : (t : ℕ) → total-record-lts.Need-children-at-requires-2 (total-record-uses t) (total-record-at t) total-record.Post
-total-record-children-at-requires-2 t c κs = search needs
-
-total-record-total-records-requires-2 : (t : ℕ) → total-record-lts.Need-total-records-requires-2 (total-record-uses t) (total-record-at t) total-record.Post
-total-record-total-records-requires-2 t c κs = (omega (arith, c .before .before .before .before .before .before .before .pre .0, c .before .before .before .before .before .before .before .pre .1 .1), walks-next (c .before .before .before .before .before .before .before .pre .1 .0) (c .before .before .before .before .before .before .before .pre .1 .1))
-
-total-record-total-element-requires : (t : ℕ) → total-record-lts.Need-total-element-requires (total-record-uses t) (total-record-at t) total-record.Post
-total-record-total-element-requires t c κs = (c .before .before .before .before .before .before .pre .1 .0, c .before .before .before .before .before .before .pre .1 .1, ap isElementKind (sym (c .before .kind-at .ensures) ∙ c .match .keys3) ∙ (unfold isElementKind in refl), not-false _ (c .before .before .if1 .left))
-
-total-record-total-element-requires-2 : (t : ℕ) → total-record-lts.Need-total-element-requires-2 (total-record-uses t) (total-record-at t) total-record.Post
-total-record-total-element-requires-2 t c κs = (c .before .before .before .before .before .before .pre .1 .0, c .before .before .before .before .before .before .pre .1 .1, ap isElementKind (sym (c .before .kind-at .ensures) ∙ c .match .keys4) ∙ (unfold isElementKind in refl), not-false _ (c .before .before .if1 .left))
-
-total-record-total-element-requires-3 : (t : ℕ) → total-record-lts.Need-total-element-requires-3 (total-record-uses t) (total-record-at t) total-record.Post
-total-record-total-element-requires-3 t c κs = (c .before .before .before .before .before .before .pre .1 .0, c .before .before .before .before .before .before .pre .1 .1, ap isElementKind (sym (c .before .kind-at .ensures) ∙ c .match .keys5) ∙ (unfold isElementKind in refl), not-false _ (c .before .before .if1 .left))
-
-total-record-mul-from-note-2 : (t : ℕ) → total-record-lts.Need-mul-from-note-2 (total-record-uses t) (total-record-at t) total-record.Post
-total-record-mul-from-note-2 t c = omega (arith, c .before .before .before .before .before .before .pre .1 .1, c .before .before .before .before .before .before .pre .1 .0 .ready .few)
-
-total-record-shared-slice-read-from-note-2 :
-    (t : ℕ) → total-record-lts.Need-shared-slice-read-from-note-2 (
-      from-note-reads.Asked,
-      from-note-reads.Learnt,
-      kind-at-reads.Asked,
-      kind-at-reads.Learnt,
-      children-at-reads.Asked,
-      children-at-reads.Learnt,
-      total-records-below t,
-      total-records.Post,
-      total-element-reads.Asked,
-      total-element-reads.Learnt,
-    ) (total-record-at t) total-record.Post
-total-record-shared-slice-read-from-note-2 t c = omega (arith, c .before .before .before .before .before .before .before .pre .1 .0 .ready .planned .long, c .before .before .before .before .before .before .before .pre .1 .1)
-
-total-record-from-note-requires-2 : (t : ℕ) → total-record-lts.Need-from-note-requires-2 (total-record-uses t) (total-record-at t) total-record.Post
-total-record-from-note-requires-2 t c κs = search needs
+total-record-total-records-requires t c κs = (omega (arith, c .before .before .before .before .before .before .before .before .pre .0, c .before .before .before .before .before .before .before .before .pre .1 .1), walks-next (c .before .before .before .before .before .before .before .before .pre .1 .0) (c .before .before .before .before .before .before .before .before .pre .1 .1))
 
 total-record-returns-2 : (t : ℕ) → total-record-lts.Need-returns-2 (total-record-uses t) (total-record-at t) total-record.Post
 total-record-returns-2 t c =
-    let g = c .before .before .before .before .before .before .before .before .args in
-    let p = c .before .before .before .before .before .before .before .before .pre .1 in
-    let k : labelAt (g .ws .now) (g .at) .kind ≡ 26 = sym (c .before .before .before .kind-at .ensures) ∙ c .before .before .match .keys1 in
-    total-other (p .0) (p .1) (g .a) (g .has) (λ e. omega (arith, k, e)) (λ e. omega (arith, k, e)) (λ e. omega (arith, k, e)) (λ e. omega (arith, k, e)) (λ e. omega (arith, k, e))
+    let g = c .before .before .before .before .before .before .before .before .before .args in
+    let p = c .before .before .before .before .before .before .before .before .before .pre .1 in
+    let k = ap isWalked (sym (c .before .before .before .before .kind-at .ensures)) ∙ sym (c .before .before .before .is-walked .ensures) ∙ c .before .before .if2 .taken in
+    total-other (p .0) (p .1) (g .a) (g .has) (kinds-apart isWalked _ 4 k (unfold isWalked in refl)) (kinds-apart isWalked _ 20 k (unfold isWalked in refl)) (kinds-apart isWalked _ 30 k (unfold isWalked in refl)) (kinds-apart isWalked _ 31 k (unfold isWalked in refl)) (kinds-apart isWalked _ 32 k (unfold isWalked in refl))
     (subst (λ (j : ℕ). Totals (g .ws .now) (g .at + 1) j (g .a) (g .has) (c .total-records .result)) (c .before .children-at .ensures .0) (c .total-records .ensures))
 
+total-record-total-single-requires : (t : ℕ) → total-record-lts.Need-total-single-requires (total-record-uses t) (total-record-at t) total-record.Post
+total-record-total-single-requires t c κs = (c .before .before .before .before .before .before .before .pre .1 .0, c .before .before .before .before .before .before .before .pre .1 .1, ap isWalked (sym (c .before .before .kind-at .ensures)) ∙ sym (c .before .is-walked .ensures) ∙ c .if2 .left)
+
 total-record-returns-3 : (t : ℕ) → total-record-lts.Need-returns-3 (total-record-uses t) (total-record-at t) total-record.Post
-total-record-returns-3 t c =
-    let g = c .before .before .before .before .before .before .before .before .args in
-    let p = c .before .before .before .before .before .before .before .before .pre .1 in
-    let k : labelAt (g .ws .now) (g .at) .kind ≡ 29 = sym (c .before .before .before .kind-at .ensures) ∙ c .before .before .match .keys2 in
-    total-other (p .0) (p .1) (g .a) (g .has) (λ e. omega (arith, k, e)) (λ e. omega (arith, k, e)) (λ e. omega (arith, k, e)) (λ e. omega (arith, k, e)) (λ e. omega (arith, k, e))
-    (subst (λ (j : ℕ). Totals (g .ws .now) (g .at + 1) j (g .a) (g .has) (c .total-records2 .result)) (c .before .children-at2 .ensures .0) (c .total-records2 .ensures))
-
-total-record-returns-4 : (t : ℕ) → total-record-lts.Need-returns-4 (total-record-uses t) (total-record-at t) total-record.Post
-total-record-returns-4 t c = c .total-element .ensures
-
-total-record-returns-5 : (t : ℕ) → total-record-lts.Need-returns-5 (total-record-uses t) (total-record-at t) total-record.Post
-total-record-returns-5 t c = c .total-element2 .ensures
-
-total-record-returns-6 : (t : ℕ) → total-record-lts.Need-returns-6 (total-record-uses t) (total-record-at t) total-record.Post
-total-record-returns-6 t c = c .total-element3 .ensures
-
-total-record-returns-7 : (t : ℕ) → total-record-lts.Need-returns-7 (total-record-uses t) (total-record-at t) total-record.Post
-total-record-returns-7 t c =
-    let g = c .before .before .before .before .before .before .before .before .args in
-    let p = c .before .before .before .before .before .before .before .before .pre .1 in
-    let k = c .before .before .before .kind-at .ensures in
-    let m = c .before .before .match .rest in
-    let e = c .from-note2 .ensures in
-    total-same _ (total-quiet (p .0) (p .1) (g .a) (g .has) _ (note-at _ _ _ (p .0 .noted) (p .1)) (λ e. m .0 .0 .0 .0 .1 (k ∙ e)) (λ e. m .0 .0 .0 .1 (k ∙ e)) (λ e. m .0 .0 .1 (k ∙ e)) (λ e. m .0 .1 (k ∙ e)) (λ e. m .1 (k ∙ e))) (e .0) (e .1) (e .2)
+total-record-returns-3 t c = c .total-single .ensures
 
 abbrev total-records-Inv-loop : total-records-lts.InvT-loop
 total-records-Inv-loop ws notes at k a has q₀ i₀ n₀ d₀ q i n d = (q ≤ length ws) × (i ≤ k) × Totals ws at i a has (record { at = q; count = n; default = d })
@@ -248,24 +179,13 @@ pub +total-record+total-records-spec : {M : Type 1} → statement M
     (total-record-from-note-requires t)
     (total-record-returns t)
     (total-record-kind-at-requires t)
+    (total-record-is-walked-requires t)
     (total-record-add-total-records t)
     (total-record-children-at-requires t)
     (total-record-total-records-requires t)
-    (total-record-add-total-records-2 t)
-    (total-record-children-at-requires-2 t)
-    (total-record-total-records-requires-2 t)
-    (total-record-total-element-requires t)
-    (total-record-total-element-requires-2 t)
-    (total-record-total-element-requires-3 t)
-    (total-record-mul-from-note-2 t)
-    (total-record-shared-slice-read-from-note-2 t)
-    (total-record-from-note-requires-2 t)
     (total-record-returns-2 t)
-    (total-record-returns-3 t)
-    (total-record-returns-4 t)
-    (total-record-returns-5 t)
-    (total-record-returns-6 t)
-    (total-record-returns-7 t))
+    (total-record-total-single-requires t)
+    (total-record-returns-3 t))
     λ t. total-records-lts.spec (total-records-uses t) (total-records-at t)
     total-records.Post
     total-records-Inv-loop

@@ -5,7 +5,7 @@ use Rattle.counter.proofs.class_symbols.Statement.{statement}
 use Rattle.counter.proofs.class_symbols.Tie as tie
 
 class-count-requires : tie.Need-class-count-requires
-class-count-requires c κs = search needs
+class-count-requires c κs = (c .before .before .pre .0, c .before .before .pre .1, c .before .before .pre .2, c .before .before .pre .3)
 
 add-result : tie.Need-add-result
 add-result c = search needs

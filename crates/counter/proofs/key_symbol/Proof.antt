@@ -11,16 +11,16 @@ plain-key-requires c κs = search needs
 
 returns : tie.Need-returns
 returns c =
-    let g = c .before .before .before .args in
+    let g = c .before .before .before .before .args in
     key-plain (g .s .next) (g .s .default) _ (sym (c .before .plain-key .ensures) ∙ c .if1 .taken)
 
-add-t5 : tie.Need-add-t5
-add-t5 c = omega (arith, c .before .before .before .before .pre)
+add-t6 : tie.Need-add-t6
+add-t6 c = omega (arith, c .before .before .before .before .before .pre .0)
 
 returns-2 : tie.Need-returns-2
 returns-2 c =
-    let g = c .before .before .before .before .args in
+    let g = c .before .before .before .before .before .args in
     key-fresh (g .s .next) (g .s .default) _ (sym (c .before .before .plain-key .ensures) ∙ c .before .if1 .left)
 
 pub key-symbol-spec : {M : Type 1} → statement M
-key-symbol-spec = tie.close (tie.spec plain-key-requires returns add-t5 returns-2)
+key-symbol-spec = tie.close (tie.spec plain-key-requires returns add-t6 returns-2)

@@ -46,14 +46,31 @@ slice-aggregate-report-by-4 c = search needs
 
 report-by-requires-2 : tie.Need-report-by-requires-2
 report-by-requires-2 c κs =
-    let good = good-length (length (c .before .before .before .before .before .before .before .before .args .bytes .now)) (sym (c .before .before .before .before .before .is-bad-length .ensures) ∙ c .before .before .before .before .if1 .left) in
-    (good .0, omega (arith, good .1), omega arith, omega arith)
+    let good = good-length (length (c .before .before .before .before .before .before .before .before .before .args .bytes .now)) (sym (c .before .before .before .before .before .before .is-bad-length .ensures) ∙ c .before .before .before .before .before .if1 .left) in
+    (good .0, omega arith, omega arith, omega arith)
 
 same-length-2 : tie.Need-same-length-2
 same-length-2 c = search needs
 
 returns-3 : tie.Need-returns-3
 returns-3 c = search needs
+
+slice-aggregate-report-by-5 : tie.Need-slice-aggregate-report-by-5
+slice-aggregate-report-by-5 c = search needs
+
+slice-aggregate-report-by-6 : tie.Need-slice-aggregate-report-by-6
+slice-aggregate-report-by-6 c = search needs
+
+report-by-requires-3 : tie.Need-report-by-requires-3
+report-by-requires-3 c κs =
+    let good = good-length (length (c .before .before .before .before .before .before .before .before .before .args .bytes .now)) (sym (c .before .before .before .before .before .before .is-bad-length .ensures) ∙ c .before .before .before .before .before .if1 .left) in
+    (good .0, omega (arith, good .1), omega arith, omega arith)
+
+same-length-3 : tie.Need-same-length-3
+same-length-3 c = search needs
+
+returns-4 : tie.Need-returns-4
+returns-4 c = search needs
 
 pub gingerpost-report-spec : {M : Type 1} → statement M
 gingerpost-report-spec =
@@ -70,4 +87,9 @@ gingerpost-report-spec =
     slice-aggregate-report-by-4
     report-by-requires-2
     same-length-2
-    returns-3)
+    returns-3
+    slice-aggregate-report-by-5
+    slice-aggregate-report-by-6
+    report-by-requires-3
+    same-length-3
+    returns-4)

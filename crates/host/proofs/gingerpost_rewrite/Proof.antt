@@ -1,4 +1,4 @@
--- `gingerpost_rewrite`: the early return is refusal 1; else the bytes are whole words, at most 64 or at most 4,096, and the rest is `rewrite_by`.
+-- `gingerpost_rewrite`: the early return is refusal 1; else the bytes are whole words, at most 64, 512 or 4,096, and the rest is `rewrite_by`.
 use Rattle.host.specs.EntryLaws.{good-length, answer-bad, refused-number, refused-lent}
 use Rattle.host.specs.Entry.{answerIn, rewriteBytes, rewriteBytesLent}
 use Rattle.host.specs.Bytes.{wordsOfBytes, bytesOfWords}
@@ -46,14 +46,31 @@ slice-aggregate-rewrite-by-4 c = search needs
 
 rewrite-by-requires-2 : tie.Need-rewrite-by-requires-2
 rewrite-by-requires-2 c κs =
-    let good = good-length (length (c .before .before .before .before .before .before .before .before .args .bytes .now)) (sym (c .before .before .before .before .before .is-bad-length .ensures) ∙ c .before .before .before .before .if1 .left) in
-    (good .0, omega (arith, good .1), omega arith, omega arith)
+    let good = good-length (length (c .before .before .before .before .before .before .before .before .before .args .bytes .now)) (sym (c .before .before .before .before .before .before .is-bad-length .ensures) ∙ c .before .before .before .before .before .if1 .left) in
+    (good .0, omega arith, omega arith, omega arith)
 
 same-length-2 : tie.Need-same-length-2
 same-length-2 c = search needs
 
 returns-3 : tie.Need-returns-3
 returns-3 c = search needs
+
+slice-aggregate-rewrite-by-5 : tie.Need-slice-aggregate-rewrite-by-5
+slice-aggregate-rewrite-by-5 c = search needs
+
+slice-aggregate-rewrite-by-6 : tie.Need-slice-aggregate-rewrite-by-6
+slice-aggregate-rewrite-by-6 c = search needs
+
+rewrite-by-requires-3 : tie.Need-rewrite-by-requires-3
+rewrite-by-requires-3 c κs =
+    let good = good-length (length (c .before .before .before .before .before .before .before .before .before .args .bytes .now)) (sym (c .before .before .before .before .before .before .is-bad-length .ensures) ∙ c .before .before .before .before .before .if1 .left) in
+    (good .0, omega (arith, good .1), omega arith, omega arith)
+
+same-length-3 : tie.Need-same-length-3
+same-length-3 c = search needs
+
+returns-4 : tie.Need-returns-4
+returns-4 c = search needs
 
 pub gingerpost-rewrite-spec : {M : Type 1} → statement M
 gingerpost-rewrite-spec =
@@ -70,4 +87,9 @@ gingerpost-rewrite-spec =
     slice-aggregate-rewrite-by-4
     rewrite-by-requires-2
     same-length-2
-    returns-3)
+    returns-3
+    slice-aggregate-rewrite-by-5
+    slice-aggregate-rewrite-by-6
+    rewrite-by-requires-3
+    same-length-3
+    returns-4)

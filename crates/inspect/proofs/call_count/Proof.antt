@@ -5,19 +5,20 @@ use native.Mathlib.Omega.{arith}
 use borrow.Author.Needs.{needs}
 use mathlib.Core.Logic.{⊎-elim}
 use Rattle.rewriting.specs.Parts.{isDecoratedMember}
+use Rattle.records.specs.Ends.{ends-at}
 use Rattle.inspect.specs.Class.{countCalled}
 use Rattle.inspect.specs.Row.{Counted, count-all, count-past, counted-hit, counted-miss, counted-start}
 use Rattle.inspect.proofs.call_count.Statement.{statement}
 use Rattle.inspect.proofs.call_count.Tie as tie
 
 abbrev Inv-loop : tie.InvT-loop
-Inv-loop ws at k q₀ i₀ n₀ q i n = Counted isDecoratedMember ws at k q i n
+Inv-loop ws notes at k q₀ i₀ n₀ q i n = Counted isDecoratedMember ws at k q i n
 
 abbrev μ-loop : tie.MeasureT-loop
-μ-loop ws at k q₀ i₀ n₀ q i n = k - i
+μ-loop ws notes at k q₀ i₀ n₀ q i n = k - i
 
 loop-holds : tie.Need-loop-holds Inv-loop μ-loop
-loop-holds c = counted-start isDecoratedMember (c .before .args .ws .now) (c .before .args .at) (c .before .args .k)
+loop-holds c = counted-start isDecoratedMember (c .before .before .args .ws .now) (c .before .before .args .at) (c .before .before .args .k)
 
 returns : tie.Need-returns Inv-loop μ-loop
 unfolding countCalled
@@ -29,8 +30,8 @@ member-decorated-requires c κs = search needs
 add-n : tie.Need-add-n Inv-loop μ-loop
 add-n c = omega (arith, c .before .before .before .before .loop .inv .few, c .before .before .before .before .loop .inv .most)
 
-skip-requires : tie.Need-skip-requires Inv-loop μ-loop
-skip-requires c κs = search needs
+behind-requires : tie.Need-behind-requires Inv-loop μ-loop
+behind-requires c κs = search (needs, ends-at)
 
 add-i : tie.Need-add-i Inv-loop μ-loop
 add-i c = search needs
@@ -41,8 +42,8 @@ loop-less c = search needs
 loop-again : tie.Need-loop-again Inv-loop μ-loop
 loop-again c =
     ⊎-elim
-    (λ w. counted-hit _ _ _ _ (c .before .before .before .before .before .loop .inv) (c .before .before .before .before .loop-test .taken) (c .before .before .before .if1 .left) (c .skip .ensures) (sym (c .before .before .member-decorated .ensures) ∙ w .0 .taken) (w .1))
-    (λ w. counted-miss _ _ _ _ (c .before .before .before .before .before .loop .inv) (c .before .before .before .before .loop-test .taken) (c .before .before .before .if1 .left) (c .skip .ensures) (sym (c .before .before .member-decorated .ensures) ∙ w .0 .left) (w .1))
+    (λ w. counted-hit _ _ _ _ (c .before .before .before .before .before .loop .inv) (c .before .before .before .before .loop-test .taken) (c .before .before .before .if1 .left) (c .behind .ensures) (sym (c .before .before .member-decorated .ensures) ∙ w .0 .taken) (w .1))
+    (λ w. counted-miss _ _ _ _ (c .before .before .before .before .before .loop .inv) (c .before .before .before .before .loop-test .taken) (c .before .before .before .if1 .left) (c .behind .ensures) (sym (c .before .before .member-decorated .ensures) ∙ w .0 .left) (w .1))
     (c .before .if2 .came)
 
 returns-2 : tie.Need-returns-2 Inv-loop μ-loop
@@ -59,7 +60,7 @@ call-count-spec =
     returns
     member-decorated-requires
     add-n
-    skip-requires
+    behind-requires
     add-i
     loop-less
     loop-again

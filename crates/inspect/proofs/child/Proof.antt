@@ -11,12 +11,12 @@ children-at-requires c κs = search needs
 
 returns : tie.Need-returns
 returns c =
-    let a = c .before .before .before .args in
+    let a = c .before .before .before .before .args in
     child-none (a .ws .now) (a .at) (a .kind) (sym (c .before .children-at .ensures .0) ∙ c .if1 .taken)
 
 add-find : tie.Need-add-find
 add-find c =
-    let a = c .before .before .before .args in
+    let a = c .before .before .before .before .args in
     omega (arith, within (a .ws .now) (a .at) (λ e. c .if1 .left (c .before .children-at .ensures .0 ∙ e)))
 
 find-requires : tie.Need-find-requires

@@ -20,7 +20,7 @@ kind-of-requires c κs = search needs
 returns : tie.Need-returns
 unfolding labelAt readAt
 returns c =
-    let a = c .before .before .before .before .args in
+    let a = c .before .before .before .before .before .args in
     let s = c .before .before .second-word .ensures in
     (opt-none ∙ sym (id-other (a .ws .now) (a .at) (s .place) (s .second) (λ e. c .if1 .taken (c .before .kind-of .ensures ∙ ap kindOf (s .word) ∙ e))), omega arith)
 
@@ -30,7 +30,7 @@ payload-of-requires c κs = search needs
 returns-2 : tie.Need-returns-2
 unfolding labelAt readAt
 returns-2 c =
-    let a = c .before .before .before .before .before .args in
+    let a = c .before .before .before .before .before .before .args in
     let w = c .before .before .before .second-word .result in
     let s = c .before .before .before .second-word .ensures in
     let e = c .payload-of .ensures in

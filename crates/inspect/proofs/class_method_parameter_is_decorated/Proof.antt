@@ -22,7 +22,7 @@ any-decorated-requires c κs = search needs
 
 returns : tie.Need-returns
 returns c =
-    let a = c .before .before .before .before .args in
+    let a = c .before .before .before .before .before .args in
     let p = c .before .before .parameters .result in
     c .any-decorated .ensures ∙ ap (anyRow hasDecorators) (kids-row (a .ws .now) p _ (c .before .children-at .ensures .0) ∙ c .before .before .parameters .ensures .0) ∙ sym (parameters-any 0 _)
 

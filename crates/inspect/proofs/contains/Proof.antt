@@ -6,21 +6,22 @@ use borrow.Author.Tests.{eq-eqb, ne-eqb}
 use borrow.Author.Needs.{needs}
 use Rattle.records.specs.Label.{is}
 use Rattle.records.specs.Place.{end-low, endOf}
+use Rattle.records.specs.Ends.{ends-at}
 use Rattle.inspect.specs.Inside.{Searched, searched-all, searched-hit, searched-next, searched-start}
 use Rattle.inspect.proofs.contains.Statement.{statement}
 use Rattle.inspect.proofs.contains.Tie as tie
 
 abbrev Inv-loop : tie.InvT-loop
-Inv-loop ws at k kind e i₀ i = (e ≡ endOf ws at k) × Searched (is kind) ws at k e i
+Inv-loop ws notes at k kind e i₀ i = (e ≡ endOf ws at k) × Searched (is kind) ws at k e i
 
 abbrev μ-loop : tie.MeasureT-loop
-μ-loop ws at k kind e i₀ i = e - i
+μ-loop ws notes at k kind e i₀ i = e - i
 
-skip-requires : tie.Need-skip-requires Inv-loop μ-loop
-skip-requires c κs = search needs
+behind-requires : tie.Need-behind-requires Inv-loop μ-loop
+behind-requires c κs = search (needs, ends-at)
 
 loop-holds : tie.Need-loop-holds Inv-loop μ-loop
-loop-holds c = (c .skip .ensures, searched-start _ _ _ _ (c .skip .ensures) (omega (arith, c .skip .ensures, end-low (c .before .before .args .ws .now) (c .before .before .args .at) (c .before .before .args .k))))
+loop-holds c = (c .behind .ensures, searched-start _ _ _ _ (c .behind .ensures) (omega (arith, c .behind .ensures, end-low (c .before .before .before .args .ws .now) (c .before .before .before .args .at) (c .before .before .before .args .k))))
 
 kind-at-requires : tie.Need-kind-at-requires Inv-loop μ-loop
 kind-at-requires c κs = search needs
@@ -48,7 +49,7 @@ contains-spec =
     (tie.spec
     Inv-loop
     μ-loop
-    skip-requires
+    behind-requires
     loop-holds
     kind-at-requires
     returns

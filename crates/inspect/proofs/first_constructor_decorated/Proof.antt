@@ -6,6 +6,7 @@ use borrow.Author.Needs.{needs}
 use Rattle.records.specs.Label.{Trees}
 use Rattle.records.specs.Place.{kidsAt}
 use Rattle.rewriting.specs.Parts.{isEmpty, ofParameters, parametersOf}
+use Rattle.records.specs.Ends.{ends-at}
 use Rattle.inspect.specs.Class.{first-missing, first-place}
 use Rattle.inspect.proofs.first_constructor_decorated.Statement.{statement}
 use Rattle.inspect.proofs.first_constructor_decorated.Tie as tie
@@ -14,10 +15,10 @@ first-constructor-requires : tie.Need-first-constructor-requires
 first-constructor-requires c κs = search needs
 
 returns : tie.Need-returns
-returns c = sym (ap (λ (f : Trees). not (isEmpty f)) (first-missing (c .before .before .before .args .ws .now) (c .before .before .before .args .at) (c .before .before .before .args .k) (c .before .first-constructor .result) (c .before .first-constructor .ensures) (c .if1 .taken)) ∙ (unfold isEmpty in refl))
+returns c = sym (ap (λ (f : Trees). not (isEmpty f)) (first-missing (c .before .before .before .before .args .ws .now) (c .before .before .before .before .args .at) (c .before .before .before .before .args .k) (c .before .first-constructor .result) (c .before .first-constructor .ensures) (c .if1 .taken)) ∙ (unfold isEmpty in refl))
 
-skip-requires : tie.Need-skip-requires
-skip-requires c κs = search needs
+behind-requires : tie.Need-behind-requires
+behind-requires c κs = search (needs, ends-at)
 
 class-method-parameter-is-decorated-requires :
     tie.Need-class-method-parameter-is-decorated-requires
@@ -25,9 +26,9 @@ class-method-parameter-is-decorated-requires c κs = search needs
 
 returns-2 : tie.Need-returns-2
 returns-2 c =
-    let a = c .before .before .before .before .before .args in
+    let a = c .before .before .before .before .before .before .args in
     c .class-method-parameter-is-decorated .ensures
-    ∙ ap (λ (n : ℕ). not (isEmpty (ofParameters 0 (parametersOf (kidsAt (a .ws .now) n))))) (c .before .skip .ensures)
+    ∙ ap (λ (n : ℕ). not (isEmpty (ofParameters 0 (parametersOf (kidsAt (a .ws .now) n))))) (c .before .behind .ensures)
     ∙ sym (ap (λ (f : Trees). not (isEmpty f)) (first-place (a .ws .now) (a .at) (a .k) (c .before .before .before .first-constructor .result) (c .before .before .before .first-constructor .ensures) (c .before .before .if1 .left)))
 
 pub first-constructor-decorated-spec : {M : Type 1} → statement M
@@ -36,6 +37,6 @@ first-constructor-decorated-spec =
     (tie.spec
     first-constructor-requires
     returns
-    skip-requires
+    behind-requires
     class-method-parameter-is-decorated-requires
     returns-2)

@@ -17,7 +17,7 @@ private-in-requires c κs = search needs
 
 returns : tie.Need-returns
 returns c =
-    let d : anyF (is 19) (decorators (kidsAt (c .before .before .before .args .ws .now) (c .before .before .before .args .at))) ≡ true = sym (c .before .private-in .ensures) ∙ c .if1 .taken in
+    let d : anyF (is 19) (decorators (kidsAt (c .before .before .before .before .args .ws .now) (c .before .before .before .before .args .at))) ≡ true = sym (c .before .private-in .ensures) ∙ c .if1 .taken in
     sym (class-private _ ∙ rw d)
 
 body-requires : tie.Need-body-requires
@@ -34,8 +34,8 @@ private-in-elements-requires c κs = search needs
 
 returns-2 : tie.Need-returns-2
 returns-2 c =
-    let d : anyF (is 19) (decorators (kidsAt (c .before .before .before .before .before .before .args .ws .now) (c .before .before .before .before .before .before .args .at))) ≡ false = sym (c .before .before .before .before .private-in .ensures) ∙ c .before .before .before .if1 .left in
-    c .private-in-elements .ensures ∙ ap (λ (f : Trees). anyF (is 19) (ofElements f)) (kids-row (c .before .before .before .before .before .before .args .ws .now) (c .before .before .body .result) _ (c .before .children-at .ensures .0) ∙ c .before .before .body .ensures .0) ∙ sym (class-private _ ∙ rw d)
+    let d : anyF (is 19) (decorators (kidsAt (c .before .before .before .before .before .before .before .args .ws .now) (c .before .before .before .before .before .before .before .args .at))) ≡ false = sym (c .before .before .before .before .private-in .ensures) ∙ c .before .before .before .if1 .left in
+    c .private-in-elements .ensures ∙ ap (λ (f : Trees). anyF (is 19) (ofElements f)) (kids-row (c .before .before .before .before .before .before .before .args .ws .now) (c .before .before .body .result) _ (c .before .children-at .ensures .0) ∙ c .before .before .body .ensures .0) ∙ sym (class-private _ ∙ rw d)
 
 pub has-private-in-expression-spec : {M : Type 1} → statement M
 has-private-in-expression-spec =

@@ -21,13 +21,13 @@ class-method-parameter-is-decorated-requires c κs = search needs
 returns : tie.Need-returns
 unfolding isDecoratedConstructor
 returns c =
-    let t : isConstructor (labelAt (c .before .before .before .before .before .args .ws .now) (c .before .before .before .before .before .args .at)) ≡ true = sym (c .before .before .is-constructor .ensures ∙ constructor-at (c .before .before .before .before .before .args .ws .now) (c .before .before .before .before .before .args .at) (c .before .before .before .word-at .result) (c .before .before .before .word-at .ensures)) ∙ c .before .if1 .taken in
+    let t : isConstructor (labelAt (c .before .before .before .before .before .before .args .ws .now) (c .before .before .before .before .before .before .args .at)) ≡ true = sym (c .before .before .is-constructor .ensures ∙ constructor-at (c .before .before .before .before .before .before .args .ws .now) (c .before .before .before .before .before .before .args .at) (c .before .before .before .word-at .result) (c .before .before .before .word-at .ensures)) ∙ c .before .if1 .taken in
     c .class-method-parameter-is-decorated .ensures ∙ sym (rw t)
 
 returns-2 : tie.Need-returns-2
 unfolding isDecoratedConstructor
 returns-2 c =
-    let t : isConstructor (labelAt (c .before .before .before .before .args .ws .now) (c .before .before .before .before .args .at)) ≡ false = sym (c .before .is-constructor .ensures ∙ constructor-at (c .before .before .before .before .args .ws .now) (c .before .before .before .before .args .at) (c .before .before .word-at .result) (c .before .before .word-at .ensures)) ∙ c .if1 .left in
+    let t : isConstructor (labelAt (c .before .before .before .before .before .args .ws .now) (c .before .before .before .before .before .args .at)) ≡ false = sym (c .before .is-constructor .ensures ∙ constructor-at (c .before .before .before .before .before .args .ws .now) (c .before .before .before .before .before .args .at) (c .before .before .word-at .result) (c .before .before .word-at .ensures)) ∙ c .if1 .left in
     sym (rw t)
 
 pub is-decorated-constructor-spec : {M : Type 1} → statement M

@@ -22,7 +22,7 @@ is-plain-key-requires c κs = search needs
 returns : tie.Need-returns
 unfolding labelAt readAt
 returns c =
-    let a = c .before .before .before .before .args in
+    let a = c .before .before .before .before .before .args in
     let s = c .before .before .second-word .ensures in
     c .is-plain-key .ensures ∙ ap (λ (n : ℕ). isPlainKey (n ∶ 0)) (c .before .kind-of .ensures ∙ ap kindOf (s .word)) ∙ sym (plain-kind (labelAt (a .ws .now) (s .place))) ∙ key-second (a .ws .now) (a .at) (s .place) (s .second)
 

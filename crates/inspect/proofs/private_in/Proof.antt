@@ -21,7 +21,7 @@ contains-requires : tie.Need-contains-requires
 contains-requires c κs = search needs
 
 returns : tie.Need-returns
-returns c = c .contains .ensures ∙ ap (anyF (is 19)) (kids-row (c .before .before .before .before .args .ws .now) (c .before .before .decorators .result) _ (c .before .children-at .ensures .0) ∙ c .before .before .decorators .ensures .kids)
+returns c = c .contains .ensures ∙ ap (anyF (is 19)) (kids-row (c .before .before .before .before .before .args .ws .now) (c .before .before .decorators .result) _ (c .before .children-at .ensures .0) ∙ c .before .before .decorators .ensures .kids)
 
 pub private-in-spec : {M : Type 1} → statement M
 private-in-spec =

@@ -21,7 +21,7 @@ private-in-any-requires : tie.Need-private-in-any-requires
 private-in-any-requires c κs = search needs
 
 returns : tie.Need-returns
-returns c = c .private-in-any .ensures ∙ ap (anyRow privateIn) (kids-row (c .before .before .before .before .args .ws .now) (c .before .before .parameters .result) _ (c .before .children-at .ensures .0) ∙ c .before .before .parameters .ensures .0) ∙ sym (parameters-private 0 _)
+returns c = c .private-in-any .ensures ∙ ap (anyRow privateIn) (kids-row (c .before .before .before .before .before .args .ws .now) (c .before .before .parameters .result) _ (c .before .children-at .ensures .0) ∙ c .before .before .parameters .ensures .0) ∙ sym (parameters-private 0 _)
 
 pub private-in-parameters-spec : {M : Type 1} → statement M
 private-in-parameters-spec =

@@ -12,10 +12,10 @@ use Rattle.inspect.proofs.refused_7.Statement.{statement}
 use Rattle.inspect.proofs.refused_7.Tie as tie
 
 abbrev Inv-loop : tie.InvT-loop
-Inv-loop ws i₀ i = (i ≤ length ws) × (anyRecord isRefused7 (recordsAt ws 0) ≡ anyRecord isRefused7 (recordsAt ws i))
+Inv-loop ws notes i₀ i = (i ≤ length ws) × (anyRecord isRefused7 (recordsAt ws 0) ≡ anyRecord isRefused7 (recordsAt ws i))
 
 abbrev μ-loop : tie.MeasureT-loop
-μ-loop ws i₀ i = length ws - i
+μ-loop ws notes i₀ i = length ws - i
 
 loop-holds : tie.Need-loop-holds Inv-loop μ-loop
 loop-holds c = (omega arith, refl)
@@ -25,8 +25,8 @@ is-refused-7-requires c κs = search needs
 
 returns : tie.Need-returns Inv-loop μ-loop
 returns c =
-    let t : isRefused7 (labelAt (c .before .before .before .before .before .args .ws .now) (c .before .before .before .loop .i)) (kidsAt (c .before .before .before .before .before .args .ws .now) (c .before .before .before .loop .i)) ≡ true = sym (c .before .is-refused-7 .ensures) ∙ c .if1 .taken in
-    sym (c .before .before .before .loop .inv .1 ∙ record-open isRefused7 (c .before .before .before .before .before .args .ws .now) (c .before .before .before .loop .i) (omega arith) ∙ rw t)
+    let t : isRefused7 (labelAt (c .before .before .before .before .before .before .args .ws .now) (c .before .before .before .loop .i)) (kidsAt (c .before .before .before .before .before .before .args .ws .now) (c .before .before .before .loop .i)) ≡ true = sym (c .before .is-refused-7 .ensures) ∙ c .if1 .taken in
+    sym (c .before .before .before .loop .inv .1 ∙ record-open isRefused7 (c .before .before .before .before .before .before .args .ws .now) (c .before .before .before .loop .i) (omega arith) ∙ rw t)
 
 add-i : tie.Need-add-i Inv-loop μ-loop
 add-i c = search needs
@@ -36,11 +36,11 @@ loop-less c = search needs
 
 loop-again : tie.Need-loop-again Inv-loop μ-loop
 loop-again c =
-    let t : isRefused7 (labelAt (c .before .before .before .before .before .args .ws .now) (c .before .before .before .loop .i)) (kidsAt (c .before .before .before .before .before .args .ws .now) (c .before .before .before .loop .i)) ≡ false = sym (c .before .is-refused-7 .ensures) ∙ c .if1 .left in
-    (omega arith, c .before .before .before .loop .inv .1 ∙ record-open isRefused7 (c .before .before .before .before .before .args .ws .now) (c .before .before .before .loop .i) (omega arith) ∙ rw t)
+    let t : isRefused7 (labelAt (c .before .before .before .before .before .before .args .ws .now) (c .before .before .before .loop .i)) (kidsAt (c .before .before .before .before .before .before .args .ws .now) (c .before .before .before .loop .i)) ≡ false = sym (c .before .is-refused-7 .ensures) ∙ c .if1 .left in
+    (omega arith, c .before .before .before .loop .inv .1 ∙ record-open isRefused7 (c .before .before .before .before .before .before .args .ws .now) (c .before .before .before .loop .i) (omega arith) ∙ rw t)
 
 returns-2 : tie.Need-returns-2 Inv-loop μ-loop
-returns-2 c = sym (c .before .loop .inv .1 ∙ record-past isRefused7 (c .before .before .before .args .ws .now) (c .before .loop .i) (omega arith))
+returns-2 c = sym (c .before .loop .inv .1 ∙ record-past isRefused7 (c .before .before .before .before .args .ws .now) (c .before .loop .i) (omega arith))
 
 pub refused-7-spec : {M : Type 1} → statement M
 refused-7-spec =

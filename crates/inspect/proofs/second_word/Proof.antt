@@ -12,12 +12,12 @@ children-at-requires c κs = search needs
 
 returns : tie.Need-returns
 returns c =
-    let a = c .before .before .before .args in
+    let a = c .before .before .before .before .args in
     record { place = _; second = second-none (a .ws .now) (a .at) (omega (arith, c .before .children-at .ensures .0)); word = sym (word-past (a .ws .now) _ (omega arith)) }
 
 add-word-behind : tie.Need-add-word-behind
 add-word-behind c =
-    let a = c .before .before .before .args in
+    let a = c .before .before .before .before .args in
     omega (arith, within (a .ws .now) (a .at) (omega (arith, c .before .children-at .ensures .0)))
 
 word-behind-requires : tie.Need-word-behind-requires
@@ -25,7 +25,7 @@ word-behind-requires c κs = search needs
 
 returns-2 : tie.Need-returns-2
 returns-2 c =
-    let a = c .before .before .before .before .args in
+    let a = c .before .before .before .before .before .args in
     record { place = _; second = second-here (a .ws .now) (a .at) (omega (arith, c .before .before .children-at .ensures .0)); word = c .word-behind .ensures }
 
 pub second-word-spec : {M : Type 1} → statement M

@@ -1,12 +1,13 @@
 -- The walkers that write the report, together: a call goes to a place further on, or at the same place to a function below; each answer names a law of specs/Steps.
 use Rattle.report_walk.specs.Steps.{asks-next, asks-behind, room-behind, reports-count, reports-none, reports-past, reports-add, reports-rest, report-other, report-dropped, report-plain, report-member, report-expression, report-declared, report-live, symbol-few}
 use Rattle.report_walk.specs.Contract.{Reports}
+use Rattle.counter.specs.Totals.{element-mark}
 use Rattle.counter.specs.Steps.{counts-on, counts-within}
-use Rattle.walk_laws.specs.Kinds.{isElementKind}
+use Rattle.walk_laws.specs.Kinds.{isElementKind, class-inside, class-kind}
 use Rattle.inspect.specs.Child.{opt-none}
 use mathlib.Core.Bool.{false}
 use lib.ListN.{length}
-use borrow.Author.Tests.{not-true, not-false}
+use borrow.Author.Tests.{not-true, not-false, eq-eqb, ne-eqb}
 use borrow.Author.Needs.{needs}
 use native.Mathlib.Omega.{arith}
 use Prim.Native.Nat.{_+_, _*_, _-_, _≤_}
@@ -36,7 +37,6 @@ use Rattle.inspect.proofs.children_at.Reads as children-at-reads
 use Rattle.inspect.proofs.class_id.Reads as class-id-reads
 use Rattle.inspect.proofs.is_live.Reads as is-live-reads
 use Rattle.inspect.proofs.kind_at.Reads as kind-at-reads
-use Rattle.inspect.proofs.member_decorated.Reads as member-decorated-reads
 use Rattle.report_walk.proofs.put_class_symbol.Reads as put-class-symbol-reads
 use Rattle.report_walk.proofs.put_class_symbols.Reads as put-class-symbols-reads
 use Rattle.report_walk.proofs.put_key_symbol.Reads as put-key-symbol-reads
@@ -145,7 +145,7 @@ abbrev report-class-statement-uses : ℕ → report-class-statement-lts.Claims
 report-class-statement-uses t = (class-id-reads.Asked, class-id-reads.Learnt, is-live-reads.Asked, is-live-reads.Learnt, report-records-below t, report-records.Post, put-class-symbols-reads.Asked, put-class-symbols-reads.Learnt, class-symbols-reads.Asked, class-symbols-reads.Learnt)
 
 abbrev report-element-uses : ℕ → report-element-lts.Claims
-report-element-uses t = (children-at-reads.Asked, children-at-reads.Learnt, report-records-below t, report-records.Post, member-decorated-reads.Asked, member-decorated-reads.Learnt, class-symbol-reads.Asked, class-symbol-reads.Learnt, put-class-symbol-reads.Asked, put-class-symbol-reads.Learnt, key-symbol-reads.Asked, key-symbol-reads.Learnt, put-key-symbol-reads.Asked, put-key-symbol-reads.Learnt)
+report-element-uses t = (children-at-reads.Asked, children-at-reads.Learnt, report-records-below t, report-records.Post, class-symbol-reads.Asked, class-symbol-reads.Learnt, put-class-symbol-reads.Asked, put-class-symbol-reads.Learnt, key-symbol-reads.Asked, key-symbol-reads.Learnt, put-key-symbol-reads.Asked, put-key-symbol-reads.Learnt)
 
 abbrev report-record-uses : ℕ → report-record-lts.Claims
 report-record-uses t = (kind-at-reads.Asked, kind-at-reads.Learnt, report-class-statement-below t, report-class-statement.Post, report-class-expression-below t, report-class-expression.Post, report-element-below t, report-element.Post, children-at-reads.Asked, children-at-reads.Learnt, report-records-below t, report-records.Post)
@@ -172,7 +172,7 @@ report-class-statement-add-class-id : (t : ℕ) → report-class-statement-lts.N
 report-class-statement-add-class-id t c = omega (arith, c .before .before .before .pre .1 .1, c .before .before .before .pre .1 .0 .ready .few)
 
 report-class-statement-class-id-requires : (t : ℕ) → report-class-statement-lts.Need-class-id-requires (report-class-statement-uses t) (report-class-statement-at t) report-class-statement.Post
-report-class-statement-class-id-requires t c κs = search needs
+report-class-statement-class-id-requires t c κs = c .before .before .before .pre .1 .0 .ready .planned .ends
 
 report-class-statement-add-is-live : (t : ℕ) → report-class-statement-lts.Need-add-is-live (report-class-statement-uses t) (report-class-statement-at t) report-class-statement.Post
 report-class-statement-add-is-live t c = omega (arith, c .before .before .before .before .pre .1 .1, c .before .before .before .before .pre .1 .0 .ready .few)
@@ -190,13 +190,15 @@ report-class-statement-put-class-symbols-requires : (t : ℕ) → report-class-s
 report-class-statement-put-class-symbols-requires t c κs =
     let p = c .before .before .before .before .before .before .before .before .before .before .before .pre .1 in
     let r = room-behind (p .0) (p .1) (c .before .before .before .before .report-records .ensures) in
-    (omega (arith, p .0 .ready .planned .long, p .1), omega (arith, r .0), omega (arith, p .0 .ready .few, p .1), omega (arith, r .1))
+    let g = c .before .before .before .before .before .before .before .before .before .before .before .args in
+    (p .0 .ready .planned, class-inside (g .ws .now) (p .0 .ready .whole) (g .at) (p .1) (p .2), class-kind (g .ws .now) (p .0 .ready .whole) (g .at) (p .1) (p .2), omega (arith, p .0 .ready .few, p .1), omega (arith, r .0), omega (arith, r .1))
 
 report-class-statement-class-symbols-requires : (t : ℕ) → report-class-statement-lts.Need-class-symbols-requires (report-class-statement-uses t) (report-class-statement-at t) report-class-statement.Post
 report-class-statement-class-symbols-requires t c κs =
     let p = c .before .before .before .before .before .before .before .before .before .before .before .before .before .before .pre .1 in
     let r = room-behind (p .0) (p .1) (c .before .before .before .before .before .before .before .report-records .ensures) in
-    (omega (arith, p .0 .ready .planned .long, p .1), omega (arith, r .0), omega (arith, p .0 .ready .few, p .1))
+    let g = c .before .before .before .before .before .before .before .before .before .before .before .before .before .before .args in
+    (p .0 .ready .planned, class-inside (g .ws .now) (p .0 .ready .whole) (g .at) (p .1) (p .2), class-kind (g .ws .now) (p .0 .ready .whole) (g .at) (p .1) (p .2), omega (arith, p .0 .ready .few, p .1), omega (arith, r .0))
 
 report-class-statement-same-length : (t : ℕ) → report-class-statement-lts.Need-same-length (report-class-statement-uses t) (report-class-statement-at t) report-class-statement.Post
 report-class-statement-same-length t c = c .before .before .before .put-class-symbols .kept .1 .1 .1 .1 .1 .0 ∙ c .before .before .before .before .before .before .before .before .report-records .kept .1 .1 .1 .1 .1 .1 .0
@@ -238,8 +240,11 @@ report-element-returns t c =
     let p = c .before .before .before .before .before .before .before .before .before .before .pre .1 in
     report-dropped (p .0) (p .1) (g .a) (g .s .default) (p .2) (not-true _ (c .if1 .taken)) (reports-count (c .before .before .before .before .before .before .children-at .ensures .0) (c .before .before .before .before .report-records .ensures))
 
-report-element-member-decorated-requires : (t : ℕ) → report-element-lts.Need-member-decorated-requires (report-element-uses t) (report-element-at t) report-element.Post
-report-element-member-decorated-requires t c κs = search needs
+report-element-mul-if2 : (t : ℕ) → report-element-lts.Need-mul-if2 (report-element-uses t) (report-element-at t) report-element.Post
+report-element-mul-if2 t c = omega (arith, c .before .before .before .before .before .before .before .before .before .before .pre .1 .1, c .before .before .before .before .before .before .before .before .before .before .pre .1 .0 .ready .few)
+
+report-element-shared-slice-read-if2 : (t : ℕ) → report-element-lts.Need-shared-slice-read-if2 (report-element-uses t) (report-element-at t) report-element.Post
+report-element-shared-slice-read-if2 t c = omega (arith, c .before .before .before .before .before .before .before .before .before .before .before .pre .1 .0 .ready .planned .ends .long, c .before .before .before .before .before .before .before .before .before .before .before .pre .1 .1)
 
 report-element-same-length-2 : (t : ℕ) → report-element-lts.Need-same-length-2 (report-element-uses t) (report-element-at t) report-element.Post
 report-element-same-length-2 t c = c .before .before .before .before .before .before .report-records .kept .1 .1 .1 .1 .1 .1 .0
@@ -248,7 +253,7 @@ report-element-returns-2 : (t : ℕ) → report-element-lts.Need-returns-2 (repo
 report-element-returns-2 t c =
     let g = c .before .before .before .before .before .before .before .before .before .before .before .before .args in
     let p = c .before .before .before .before .before .before .before .before .before .before .before .before .pre .1 in
-    report-plain (p .0) (p .1) (g .a) (g .s .default) (p .2) (sym (c .before .member-decorated .ensures) ∙ not-true _ (c .if2 .taken)) (reports-count (c .before .before .before .before .before .before .before .before .children-at .ensures .0) (c .before .before .before .before .before .before .report-records .ensures))
+    report-plain (p .0) (p .1) (g .a) (g .s .default) (p .2) (sym (element-mark (g .at) (p .0 .ready .planned) (p .1) (p .2)) ∙ ne-eqb _ 1 (c .if2 .taken)) (reports-count (c .before .before .before .before .before .before .before .before .children-at .ensures .0) (c .before .before .before .before .before .before .report-records .ensures))
 
 report-element-class-symbol-requires : (t : ℕ) → report-element-lts.Need-class-symbol-requires (report-element-uses t) (report-element-at t) report-element.Post
 report-element-class-symbol-requires t c κs =
@@ -266,23 +271,23 @@ report-element-key-symbol-requires : (t : ℕ) → report-element-lts.Need-key-s
 report-element-key-symbol-requires t c κs =
     let p = c .before .before .before .before .before .before .before .before .before .before .before .before .before .before .before .before .before .pre .1 in
     let r = room-behind (p .0) (p .1) (c .before .before .before .before .before .before .before .before .before .before .before .report-records .ensures) in
-    omega (arith, r .0, c .before .before .before .before .class-symbol .ensures .1)
+    (omega (arith, r .0, c .before .before .before .before .class-symbol .ensures .1), p .0 .ready .planned .ends)
 
 report-element-put-key-symbol-requires : (t : ℕ) → report-element-lts.Need-put-key-symbol-requires (report-element-uses t) (report-element-at t) report-element.Post
 report-element-put-key-symbol-requires t c κs =
     let p = c .before .before .before .before .before .before .before .before .before .before .before .before .before .before .before .before .before .before .before .pre .1 in
     let r = room-behind (p .0) (p .1) (c .before .before .before .before .before .before .before .before .before .before .before .before .before .report-records .ensures) in
     let q = c .before .before .before .before .before .before .before .before .before .before .before .before .before .report-records .result in
-    (omega (arith, r .0, c .before .before .before .before .before .before .class-symbol .ensures .1), omega (arith, r .1, c .before .before .before .before .put-class-symbol .ensures .end, symbol-few (c .before .before .before .before .before .before .before .before .before .before .before .before .before .before .before .before .before .before .before .args .a .id) (q .next) (q .default)))
+    (omega (arith, r .0, c .before .before .before .before .before .before .class-symbol .ensures .1), omega (arith, r .1, c .before .before .before .before .put-class-symbol .ensures .end, symbol-few (c .before .before .before .before .before .before .before .before .before .before .before .before .before .before .before .before .before .before .before .args .a .id) (q .next) (q .default)), p .0 .ready .planned .ends)
 
 report-element-same-length-3 : (t : ℕ) → report-element-lts.Need-same-length-3 (report-element-uses t) (report-element-at t) report-element.Post
-report-element-same-length-3 t c = c .before .before .put-key-symbol .kept .1 .1 .1 .0 ∙ c .before .before .before .before .before .before .before .put-class-symbol .kept .1 .1 .0 ∙ c .before .before .before .before .before .before .before .before .before .before .before .before .before .before .before .before .report-records .kept .1 .1 .1 .1 .1 .1 .0
+report-element-same-length-3 t c = c .before .before .put-key-symbol .kept .1 .1 .1 .1 .0 ∙ c .before .before .before .before .before .before .before .put-class-symbol .kept .1 .1 .0 ∙ c .before .before .before .before .before .before .before .before .before .before .before .before .before .before .before .before .report-records .kept .1 .1 .1 .1 .1 .1 .0
 
 report-element-returns-3 : (t : ℕ) → report-element-lts.Need-returns-3 (report-element-uses t) (report-element-at t) report-element.Post
 report-element-returns-3 t c =
     let g = c .before .before .before .before .before .before .before .before .before .before .before .before .before .before .before .before .before .before .before .before .before .before .args in
     let p = c .before .before .before .before .before .before .before .before .before .before .before .before .before .before .before .before .before .before .before .before .before .before .pre .1 in
-    report-member (p .0) (p .1) (g .a) (g .s .default) (c .before .before .before .before .before .before .before .before .before .class-symbol .result) (c .before .before .before .before .key-symbol .result .next) (c .before .before .before .before .key-symbol .result .default) _ _ _ (p .2) (not-false _ (c .before .before .before .before .before .before .before .before .before .before .before .before .if1 .left)) (sym (c .before .before .before .before .before .before .before .before .before .before .before .member-decorated .ensures) ∙ not-false _ (c .before .before .before .before .before .before .before .before .before .before .if2 .left))
+    report-member (p .0) (p .1) (g .a) (g .s .default) (c .before .before .before .before .before .before .before .before .before .class-symbol .result) (c .before .before .before .before .key-symbol .result .next) (c .before .before .before .before .key-symbol .result .default) _ _ _ (p .2) (not-false _ (c .before .before .before .before .before .before .before .before .before .before .before .before .if1 .left)) (sym (element-mark (g .at) (p .0 .ready .planned) (p .1) (p .2)) ∙ eq-eqb _ 1 (c .before .before .before .before .before .before .before .before .before .before .if2 .left))
     (reports-count (c .before .before .before .before .before .before .before .before .before .before .before .before .before .before .before .before .before .before .children-at .ensures .0) (c .before .before .before .before .before .before .before .before .before .before .before .before .before .before .before .before .report-records .ensures))
     (c .before .before .before .before .before .before .before .before .before .class-symbol .ensures .0) (c .before .before .before .before .key-symbol .ensures) (c .before .before .before .before .before .before .before .put-class-symbol .ensures) (c .before .before .put-key-symbol .ensures)
 
@@ -439,7 +444,8 @@ pub +report-class-expression+report-class-statement+report-element+report-record
     (report-element-report-records-requires t)
     (report-element-same-length t)
     (report-element-returns t)
-    (report-element-member-decorated-requires t)
+    (report-element-mul-if2 t)
+    (report-element-shared-slice-read-if2 t)
     (report-element-same-length-2 t)
     (report-element-returns-2 t)
     (report-element-class-symbol-requires t)

@@ -6,8 +6,8 @@ use borrow.Author.Needs.{needs}
 use Rattle.rewriter.proofs.annotate.Statement.{statement}
 use Rattle.rewriter.proofs.annotate.Tie as tie
 
-find-aliases-requires : tie.Need-find-aliases-requires
-find-aliases-requires c κs = (c .before .before .before .pre .1, start-fits (c .before .before .before .args .ws .now) (c .before .before .before .pre .0))
+find-marks-requires : tie.Need-find-marks-requires
+find-marks-requires c κs = (c .before .before .before .pre .1, start-fits (c .before .before .before .args .ws .now) (c .before .before .before .pre .0))
 
 payload-at-requires : tie.Need-payload-at-requires
 payload-at-requires c κs = search needs
@@ -15,7 +15,7 @@ payload-at-requires c κs = search needs
 find-counts-requires : tie.Need-find-counts-requires
 find-counts-requires c κs =
     let ws = c .before .before .before .before .before .before .before .before .args .ws .now in
-    ready-at ws (c .before .before .before .before .before .before .before .before .pre .0) _ (c .payload-at .ensures .0 ∙ symbols-word ws) (c .before .before .before .before .find-aliases .ensures .0)
+    ready-at ws (c .before .before .before .before .before .before .before .before .pre .0) _ (c .payload-at .ensures .0 ∙ symbols-word ws) (c .before .before .before .before .find-marks .ensures .0)
 
 same-length : tie.Need-same-length
 same-length c = search needs
@@ -26,4 +26,4 @@ returns c = search needs
 pub annotate-spec : {M : Type 1} → statement M
 annotate-spec =
     tie.close
-    (tie.spec find-aliases-requires payload-at-requires find-counts-requires same-length returns)
+    (tie.spec find-marks-requires payload-at-requires find-counts-requires same-length returns)

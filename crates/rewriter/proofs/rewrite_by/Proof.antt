@@ -11,55 +11,58 @@ use borrow.Author.Needs.{needs}
 use Rattle.rewriter.proofs.rewrite_by.Statement.{statement}
 use Rattle.rewriter.proofs.rewrite_by.Tie as tie
 
-turned-back-requires : tie.Need-turned-back-requires
-turned-back-requires c κs = search needs
-
-returns : tie.Need-returns
-unfolding numbersOf rewriteAnswer rewriteLent
-returns c =
-    let g = c .before .before .before .before .before .args in
-    let n = answer-back (g .ws .now) (moduleWords (g .ws .now)) (g .out .now) (c .before .turned-back .result) (c .before .turned-back .ensures) (c .if1 .taken) in
-    (n, (lent-back (g .ws .now) (moduleWords (g .ws .now)) (g .out .now) (record { code = c .before .turned-back .result; written = 0; fresh = 0 }) n (c .if1 .taken) (moduleWords (g .ws .now)), λ z. absurd (c .if1 .taken z)))
-
-annotate-requires : tie.Need-annotate-requires
-annotate-requires c κs =
-    let ok = not-turned-back (c .before .before .before .before .before .before .args .ws .now) (sym (c .before .before .turned-back .ensures) ∙ c .before .if1 .left) in
-    (ok, c .before .before .before .before .before .before .pre ok)
-
-has-room-requires : tie.Need-has-room-requires
-has-room-requires c κs = (not-turned-back (c .before .before .before .before .before .before .before .before .before .before .args .ws .now) (sym (c .before .before .before .before .before .before .turned-back .ensures) ∙ c .before .before .before .before .before .if1 .left), c .before .before .before .annotate .ensures .0, c .before .before .before .annotate .ensures .1)
+turned-back-by-requires : tie.Need-turned-back-by-requires
+turned-back-by-requires c κs = c .before .before .before .before .pre
 
 same-length : tie.Need-same-length
 same-length c = search needs
 
-returns-2 : tie.Need-returns-2
+returns : tie.Need-returns
 unfolding numbersOf rewriteAnswer rewriteLent
-returns-2 c =
-    let g = c .before .before .before .before .before .before .before .before .before .before .before .before .args in
-    let t = sym (c .before .before .before .before .before .before .before .before .turned-back .ensures) ∙ c .before .before .before .before .before .before .before .if1 .left in
-    let n = answer-8 (g .ws .now) (moduleWords (g .ws .now)) (g .out .now) t (leb-false (length (moduleWords (g .ws .now))) (length (g .out .now)) (sym (c .before .has-room .ensures) ∙ not-true _ (c .if2 .taken))) in
-    (n, (lent-back (g .ws .now) (moduleWords (g .ws .now)) (g .out .now) (record { code = 8; written = 0; fresh = 0 }) n (λ z. omega arith) (moduleWords (g .ws .now)), λ z. absurd (omega arith)))
+returns c =
+    let g = c .before .before .before .before .before .before .before .before .args in
+    let n = answer-back (g .ws .now) (moduleWords (g .ws .now)) (g .out .now) (c .before .before .before .turned-back-by .result) (c .before .before .before .turned-back-by .ensures .0) (c .if1 .taken) in
+    (n, (lent-back (g .ws .now) (moduleWords (g .ws .now)) (g .out .now) (record { code = c .before .before .before .turned-back-by .result; written = 0; fresh = 0 }) n (c .if1 .taken) (moduleWords (g .ws .now)), λ z. absurd (c .if1 .taken z)))
 
-write-module-requires : tie.Need-write-module-requires
-write-module-requires c κs = (not-turned-back (c .before .before .before .before .before .before .before .before .before .before .before .before .before .before .args .ws .now) (sym (c .before .before .before .before .before .before .before .before .before .before .turned-back .ensures) ∙ c .before .before .before .before .before .before .before .before .before .if1 .left), c .before .before .before .before .before .before .before .annotate .ensures .0, c .before .before .before .before .before .before .before .annotate .ensures .1)
+annotate-requires : tie.Need-annotate-requires
+annotate-requires c κs =
+    let ok = not-turned-back (c .before .before .before .before .before .before .before .before .before .args .ws .now) (sym (c .before .before .before .before .turned-back-by .ensures .0) ∙ c .before .if1 .left) in
+    (ok, c .before .before .before .before .turned-back-by .ensures .1 (c .before .if1 .left))
 
-payload-at-requires : tie.Need-payload-at-requires
-payload-at-requires c κs = search needs
-
-sub-t19 : tie.Need-sub-t19
-sub-t19 c = omega (arith, c .before .before .before .before .write-module .ensures .next, c .before .payload-at .ensures .0, symbols-word (c .before .before .before .before .before .before .before .before .before .before .before .before .before .before .before .before .before .before .before .args .ws .now))
+has-room-requires : tie.Need-has-room-requires
+has-room-requires c κs = (not-turned-back (c .before .before .before .before .before .before .before .before .before .before .before .before .before .args .ws .now) (sym (c .before .before .before .before .before .before .before .before .turned-back-by .ensures .0) ∙ c .before .before .before .before .before .if1 .left), c .before .before .before .annotate .ensures .0, c .before .before .before .annotate .ensures .1)
 
 same-length-2 : tie.Need-same-length-2
 same-length-2 c = search needs
 
+returns-2 : tie.Need-returns-2
+unfolding numbersOf rewriteAnswer rewriteLent
+returns-2 c =
+    let g = c .before .before .before .before .before .before .before .before .before .before .before .before .before .before .before .args in
+    let t = sym (c .before .before .before .before .before .before .before .before .before .before .turned-back-by .ensures .0) ∙ c .before .before .before .before .before .before .before .if1 .left in
+    let n = answer-8 (g .ws .now) (moduleWords (g .ws .now)) (g .out .now) t (leb-false (length (moduleWords (g .ws .now))) (length (g .out .now)) (sym (c .before .has-room .ensures) ∙ not-true _ (c .if2 .taken))) in
+    (n, (lent-back (g .ws .now) (moduleWords (g .ws .now)) (g .out .now) (record { code = 8; written = 0; fresh = 0 }) n (λ z. omega arith) (moduleWords (g .ws .now)), λ z. absurd (omega arith)))
+
+write-module-requires : tie.Need-write-module-requires
+write-module-requires c κs = (not-turned-back (c .before .before .before .before .before .before .before .before .before .before .before .before .before .before .before .before .before .args .ws .now) (sym (c .before .before .before .before .before .before .before .before .before .before .before .before .turned-back-by .ensures .0) ∙ c .before .before .before .before .before .before .before .before .before .if1 .left), c .before .before .before .before .before .before .before .annotate .ensures .0, c .before .before .before .before .before .before .before .annotate .ensures .1)
+
+payload-at-requires : tie.Need-payload-at-requires
+payload-at-requires c κs = search needs
+
+sub-t21 : tie.Need-sub-t21
+sub-t21 c = omega (arith, c .before .before .before .before .write-module .ensures .next, c .before .payload-at .ensures .0, symbols-word (c .before .before .before .before .before .before .before .before .before .before .before .before .before .before .before .before .before .before .before .before .before .before .args .ws .now))
+
 same-length-3 : tie.Need-same-length-3
 same-length-3 c = search needs
+
+same-length-4 : tie.Need-same-length-4
+same-length-4 c = search needs
 
 returns-3 : tie.Need-returns-3
 unfolding numbersOf
 returns-3 c =
-    let g = c .before .before .before .before .before .before .before .before .before .before .before .before .before .before .before .before .before .before .before .args in
-    let t = sym (c .before .before .before .before .before .before .before .before .before .before .before .before .before .before .before .turned-back .ensures) ∙ c .before .before .before .before .before .before .before .before .before .before .before .before .before .before .if1 .left in
+    let g = c .before .before .before .before .before .before .before .before .before .before .before .before .before .before .before .before .before .before .before .before .before .before .args in
+    let t = sym (c .before .before .before .before .before .before .before .before .before .before .before .before .before .before .before .before .before .turned-back-by .ensures .0) ∙ c .before .before .before .before .before .before .before .before .before .before .before .before .before .before .if1 .left in
     let fits = leb-true (length (moduleWords (g .ws .now))) (length (g .out .now)) (sym (c .before .before .before .before .before .before .before .before .has-room .ensures) ∙ not-false _ (c .before .before .before .before .before .before .before .if2 .left)) in
     let w = written-whole (g .ws .now) (g .out .now) (c .before .before .before .before .write-module .last .1 .1 .0) (c .before .before .before .before .write-module .result) (c .before .payload-at .result) t (c .before .before .before .before .write-module .ensures) (c .before .payload-at .ensures .0 ∙ symbols-word (g .ws .now)) fits in
     (w .0, (w .1 .0, λ z. w .1 .1))
@@ -68,15 +71,16 @@ pub rewrite-by-spec : {M : Type 1} → statement M
 rewrite-by-spec =
     tie.close
     (tie.spec
-    turned-back-requires
+    turned-back-by-requires
+    same-length
     returns
     annotate-requires
     has-room-requires
-    same-length
+    same-length-2
     returns-2
     write-module-requires
     payload-at-requires
-    sub-t19
-    same-length-2
+    sub-t21
     same-length-3
+    same-length-4
     returns-3)

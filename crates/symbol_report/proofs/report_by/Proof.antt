@@ -13,55 +13,58 @@ use borrow.Author.Needs.{needs}
 use Rattle.symbol_report.proofs.report_by.Statement.{statement}
 use Rattle.symbol_report.proofs.report_by.Tie as tie
 
-turned-back-requires : tie.Need-turned-back-requires
-turned-back-requires c κs = search needs
-
-returns : tie.Need-returns
-unfolding numbersOf reportAnswer
-returns c =
-    let g = c .before .before .before .before .before .args in
-    let n = answer-back (g .ws .now) (reportWords (g .ws .now)) (g .out .now) (c .before .turned-back .result) (c .before .turned-back .ensures) (c .if1 .taken) in
-    (n, report-back (g .ws .now) (g .out .now) (record { code = c .before .turned-back .result; written = 0; fresh = 0 }) n (c .if1 .taken))
-
-find-aliases-requires : tie.Need-find-aliases-requires
-find-aliases-requires c κs =
-    let ok = not-turned-back (c .before .before .before .before .before .before .args .ws .now) (sym (c .before .before .turned-back .ensures) ∙ c .before .if1 .left) in
-    (c .before .before .before .before .before .before .pre ok, start-fits (c .before .before .before .before .before .before .args .ws .now) ok)
-
-has-room-requires : tie.Need-has-room-requires
-has-room-requires c κs = (not-turned-back (c .before .before .before .before .before .before .before .before .before .before .args .ws .now) (sym (c .before .before .before .before .before .before .turned-back .ensures) ∙ c .before .before .before .before .before .if1 .left), c .before .before .before .find-aliases .ensures .0)
+turned-back-by-requires : tie.Need-turned-back-by-requires
+turned-back-by-requires c κs = c .before .before .before .before .pre
 
 same-length : tie.Need-same-length
 same-length c = search needs
 
-returns-2 : tie.Need-returns-2
+returns : tie.Need-returns
 unfolding numbersOf reportAnswer
-returns-2 c =
-    let g = c .before .before .before .before .before .before .before .before .before .before .before .before .args in
-    let t = sym (c .before .before .before .before .before .before .before .before .turned-back .ensures) ∙ c .before .before .before .before .before .before .before .if1 .left in
-    let n = answer-8 (g .ws .now) (reportWords (g .ws .now)) (g .out .now) t (leb-false (length (reportWords (g .ws .now))) (length (g .out .now)) (sym (c .before .has-room .ensures) ∙ not-true _ (c .if2 .taken))) in
-    (n, report-back (g .ws .now) (g .out .now) (record { code = 8; written = 0; fresh = 0 }) n (λ z. omega arith))
+returns c =
+    let g = c .before .before .before .before .before .before .before .before .args in
+    let n = answer-back (g .ws .now) (reportWords (g .ws .now)) (g .out .now) (c .before .before .before .turned-back-by .result) (c .before .before .before .turned-back-by .ensures .0) (c .if1 .taken) in
+    (n, report-back (g .ws .now) (g .out .now) (record { code = c .before .before .before .turned-back-by .result; written = 0; fresh = 0 }) n (c .if1 .taken))
 
-write-report-requires : tie.Need-write-report-requires
-write-report-requires c κs = (not-turned-back (c .before .before .before .before .before .before .before .before .before .before .before .before .before .before .args .ws .now) (sym (c .before .before .before .before .before .before .before .before .before .before .turned-back .ensures) ∙ c .before .before .before .before .before .before .before .before .before .if1 .left), c .before .before .before .before .before .before .before .find-aliases .ensures .0)
+find-marks-requires : tie.Need-find-marks-requires
+find-marks-requires c κs =
+    let ok = not-turned-back (c .before .before .before .before .before .before .before .before .before .args .ws .now) (sym (c .before .before .before .before .turned-back-by .ensures .0) ∙ c .before .if1 .left) in
+    (c .before .before .before .before .turned-back-by .ensures .1 (c .before .if1 .left), start-fits (c .before .before .before .before .before .before .before .before .before .args .ws .now) ok)
 
-payload-at-requires : tie.Need-payload-at-requires
-payload-at-requires c κs = search needs
-
-sub-t19 : tie.Need-sub-t19
-sub-t19 c = omega (arith, c .before .before .before .before .write-report .ensures .next, c .before .payload-at .ensures .0, symbols-word (c .before .before .before .before .before .before .before .before .before .before .before .before .before .before .before .before .before .before .before .args .ws .now))
+has-room-requires : tie.Need-has-room-requires
+has-room-requires c κs = (not-turned-back (c .before .before .before .before .before .before .before .before .before .before .before .before .before .args .ws .now) (sym (c .before .before .before .before .before .before .before .before .turned-back-by .ensures .0) ∙ c .before .before .before .before .before .if1 .left), c .before .before .before .find-marks .ensures .0)
 
 same-length-2 : tie.Need-same-length-2
 same-length-2 c = search needs
 
+returns-2 : tie.Need-returns-2
+unfolding numbersOf reportAnswer
+returns-2 c =
+    let g = c .before .before .before .before .before .before .before .before .before .before .before .before .before .before .before .args in
+    let t = sym (c .before .before .before .before .before .before .before .before .before .before .turned-back-by .ensures .0) ∙ c .before .before .before .before .before .before .before .if1 .left in
+    let n = answer-8 (g .ws .now) (reportWords (g .ws .now)) (g .out .now) t (leb-false (length (reportWords (g .ws .now))) (length (g .out .now)) (sym (c .before .has-room .ensures) ∙ not-true _ (c .if2 .taken))) in
+    (n, report-back (g .ws .now) (g .out .now) (record { code = 8; written = 0; fresh = 0 }) n (λ z. omega arith))
+
+write-report-requires : tie.Need-write-report-requires
+write-report-requires c κs = (not-turned-back (c .before .before .before .before .before .before .before .before .before .before .before .before .before .before .before .before .before .args .ws .now) (sym (c .before .before .before .before .before .before .before .before .before .before .before .before .turned-back-by .ensures .0) ∙ c .before .before .before .before .before .before .before .before .before .if1 .left), c .before .before .before .before .before .before .before .find-marks .ensures .0)
+
+payload-at-requires : tie.Need-payload-at-requires
+payload-at-requires c κs = search needs
+
+sub-t21 : tie.Need-sub-t21
+sub-t21 c = omega (arith, c .before .before .before .before .write-report .ensures .next, c .before .payload-at .ensures .0, symbols-word (c .before .before .before .before .before .before .before .before .before .before .before .before .before .before .before .before .before .before .before .before .before .before .args .ws .now))
+
 same-length-3 : tie.Need-same-length-3
 same-length-3 c = search needs
+
+same-length-4 : tie.Need-same-length-4
+same-length-4 c = search needs
 
 returns-3 : tie.Need-returns-3
 unfolding numbersOf reportAnswer
 returns-3 c =
-    let g = c .before .before .before .before .before .before .before .before .before .before .before .before .before .before .before .before .before .before .before .args in
-    let t = sym (c .before .before .before .before .before .before .before .before .before .before .before .before .before .before .before .turned-back .ensures) ∙ c .before .before .before .before .before .before .before .before .before .before .before .before .before .before .if1 .left in
+    let g = c .before .before .before .before .before .before .before .before .before .before .before .before .before .before .before .before .before .before .before .before .before .before .args in
+    let t = sym (c .before .before .before .before .before .before .before .before .before .before .before .before .before .before .before .before .before .turned-back-by .ensures .0) ∙ c .before .before .before .before .before .before .before .before .before .before .before .before .before .before .if1 .left in
     let fits = leb-true (length (reportWords (g .ws .now))) (length (g .out .now)) (sym (c .before .before .before .before .before .before .before .before .has-room .ensures) ∙ not-false _ (c .before .before .before .before .before .before .before .if2 .left)) in
     report-whole (g .ws .now) (g .out .now) (c .before .before .before .before .write-report .last .1 .1 .0) (c .before .before .before .before .write-report .result) (c .before .payload-at .result) t (c .before .before .before .before .write-report .ensures) (c .before .payload-at .ensures .0 ∙ symbols-word (g .ws .now)) fits
 
@@ -69,15 +72,16 @@ pub report-by-spec : {M : Type 1} → statement M
 report-by-spec =
     tie.close
     (tie.spec
-    turned-back-requires
-    returns
-    find-aliases-requires
-    has-room-requires
+    turned-back-by-requires
     same-length
+    returns
+    find-marks-requires
+    has-room-requires
+    same-length-2
     returns-2
     write-report-requires
     payload-at-requires
-    sub-t19
-    same-length-2
+    sub-t21
     same-length-3
+    same-length-4
     returns-3)

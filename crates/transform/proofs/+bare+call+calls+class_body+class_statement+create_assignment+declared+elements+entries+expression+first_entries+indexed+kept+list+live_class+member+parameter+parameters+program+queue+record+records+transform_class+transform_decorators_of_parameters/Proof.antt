@@ -1,7 +1,8 @@
 -- The walkers that call one another: each need is a law of specs/Steps*.antt, Copies.antt or Plans.antt. The measure is the words left, and for the walkers of one
 -- place a rank.
+use Rattle.transform.specs.Marks.{allowed-mark, allowed-single}
 use Rattle.transform.specs.StepsClasses.{no-constructor, first-at, elements-plain, elements-none, elements-asks, elements-wrote, before-asks, constructor-asks, constructor-inside, behind-asks, bare-wrote, arity-few, one-le, one-no, one-yes, stack-outer, stack-asks, body-room, block-room, body-wrote, block-wrote, alias-none, count-plan, inside-asks, few-flags, body-inside, body-is, body-later, body-deep, body-id, body-default, class-heritage, class-place, class-state, class-body-asks, class-wrote, entries-none, entries-kids, entries-inside, entries-asks, entries-wrote, decorators-asks, assignment-entries, entries-few, entries-end, assignment-wrote, queue-silent, queue-place, queue-state, queue-calls, queue-plain, queue-assignment, calls-few, assignment-end, queue-wrote, class-parts, statement-class, statement-queue, statement-end, statement-few, statement-emitted}
-use Rattle.counter.specs.Totals.{note-at}
+use Rattle.counter.specs.Totals.{note-at, element-single}
 use Rattle.transform.specs.Copies.{copies, copied-emits}
 use Rattle.transform.specs.Steps.{noted-next, asks-kids}
 use Rattle.transform.specs.Plans.{body-fits}
@@ -18,7 +19,7 @@ use Rattle.transform.specs.StepsCalls.{wrote-length, asks-step, asks-mar
 use Rattle.transform.specs.Steps.{length-words, asks-words, here-kids, state-low}
 use Rattle.transform.specs.Contract.{wordBelow, stateIn, hereAt, callsAt, kidsHere, Asks, Queues}
 use Rattle.counter.specs.Steps.{counts-on, ready-next, ready-behind, below-more}
-use Rattle.counter.specs.Contract.{aroundOf}
+use Rattle.counter.specs.Contract.{aroundOf, isWalked}
 use Rattle.walk_laws.specs.Calls.{entries as entries′, indexed-append}
 use Rattle.walk_laws.specs.Single.{row-nth}
 use Rattle.inspect.specs.Child.{optOf}
@@ -49,7 +50,7 @@ use Rattle.inspect.specs.Child.{opt-none}
 use Rattle.records.specs.Place.{labelAt, arityAt, end-low}
 use Rattle.records.specs.Forest.{size, count-size}
 use lib.ListN.{length}
-use borrow.Author.Tests.{eq-eqb, not-true, not-false}
+use borrow.Author.Tests.{eq-eqb, ne-eqb, not-true, not-false}
 use borrow.Author.Needs.{needs}
 use native.Mathlib.Omega.{arith}
 use Prim.Native.Nat.{_+_, _*_, _-_, _≤_}
@@ -140,7 +141,6 @@ use Rattle.inspect.proofs.first_constructor.Reads as first-constructor-reads
 use Rattle.inspect.proofs.is_constructor.Reads as is-constructor-reads
 use Rattle.inspect.proofs.is_live.Reads as is-live-reads
 use Rattle.inspect.proofs.kind_at.Reads as kind-at-reads
-use Rattle.inspect.proofs.member_decorated.Reads as member-decorated-reads
 use Rattle.inspect.proofs.payload_at.Reads as payload-at-reads
 use Rattle.inspect.proofs.word_at.Reads as word-at-reads
 use Rattle.transform.proofs.alias_block.Reads as alias-block-reads
@@ -447,7 +447,7 @@ abbrev bare-uses : ℕ → bare-lts.Claims
 bare-uses t = (children-at-reads.Asked, children-at-reads.Learnt, count-record-reads.Asked, count-record-reads.Learnt, kind-at-reads.Asked, kind-at-reads.Learnt, records-below t, records.Post, parameters-below t, parameters.Post)
 
 abbrev call-uses : ℕ → call-lts.Claims
-call-uses t = (count-record-reads.Asked, count-record-reads.Learnt, member-decorated-reads.Asked, member-decorated-reads.Learnt, put-reads.Asked, put-reads.Learnt, entries-below t, entries.Post, arguments-reads.Asked, arguments-reads.Learnt)
+call-uses t = (count-record-reads.Asked, count-record-reads.Learnt, put-reads.Asked, put-reads.Learnt, entries-below t, entries.Post, arguments-reads.Asked, arguments-reads.Learnt)
 
 abbrev class-body-uses : ℕ → class-body-lts.Claims
 class-body-uses t = (children-at-reads.Asked, children-at-reads.Learnt, front-count-reads.Asked, front-count-reads.Learnt, block-count-reads.Asked, block-count-reads.Learnt, put-reads.Asked, put-reads.Learnt, alias-block-reads.Asked, alias-block-reads.Learnt, body-stack-reads.Asked, body-stack-reads.Learnt, elements-below t, elements.Post, calls-below t, calls.Post)
@@ -515,7 +515,7 @@ bare-add-count-record t c = omega (arith, c .before .before .before .before .pre
 bare-count-record-requires : (t : ℕ) → bare-lts.Need-count-record-requires (bare-uses t) (bare-at t) bare.Post
 bare-count-record-requires t c κs =
     let p = c .before .before .before .before .pre .1 in
-    (ready-next (p .0 .ready) (p .1), noted-next (p .0), element-keyed _ _ (p .0 .ready .whole) (p .1) (p .2) .marked .place)
+    (ready-next (p .0 .ready) (p .1), noted-next (p .0), element-keyed _ _ (p .0 .ready .whole) (p .1) (p .2) .marked .place, ap isWalked (element-keyed _ _ (p .0 .ready .whole) (p .1) (p .2) .marked .kind) ∙ (unfold isWalked in refl))
 
 bare-kind-at-requires : (t : ℕ) → bare-lts.Need-kind-at-requires (bare-uses t) (bare-at t) bare.Post
 bare-kind-at-requires t c κs = search needs
@@ -590,16 +590,19 @@ bare-returns-2 t c =
     wrote-method (g .ws .now) (g .at) (g .a) (g .s) (g .c) x _ (c .before .before .before .before .before .before .before .before .before .before .before .before .before .before .before .children-at .ensures .0) k (p .0) (p .1) (c .before .before .before .before .before .before .before .before .before .before .records2 .ensures) (c .before .before .before .before .before .before .parameters .ensures) (c .before .before .records3 .ensures)
 
 call-count-record-requires : (t : ℕ) → call-lts.Need-count-record-requires (call-uses t) (call-at t) call.Post
-call-count-record-requires t c κs = (c .before .before .before .pre .1 .0 .ready, c .before .before .before .pre .1 .0 .noted, c .before .before .before .pre .1 .1)
+call-count-record-requires t c κs = (c .before .before .before .pre .1 .0 .ready, c .before .before .before .pre .1 .0 .noted, c .before .before .before .pre .1 .1, allowed-single _ _ (c .before .before .before .pre .1 .2))
 
-call-member-decorated-requires : (t : ℕ) → call-lts.Need-member-decorated-requires (call-uses t) (call-at t) call.Post
-call-member-decorated-requires t c κs = search needs
+call-mul-if1 : (t : ℕ) → call-lts.Need-mul-if1 (call-uses t) (call-at t) call.Post
+call-mul-if1 t c = omega (arith, c .before .before .before .before .pre .1 .1, c .before .before .before .before .pre .1 .0 .ready .few)
+
+call-shared-slice-read-if1 : (t : ℕ) → call-lts.Need-shared-slice-read-if1 (call-uses t) (call-at t) call.Post
+call-shared-slice-read-if1 t c = omega (arith, c .before .before .before .before .before .pre .1 .0 .ready .planned .ends .long, c .before .before .before .before .before .pre .1 .1)
 
 call-returns : (t : ℕ) → call-lts.Need-returns (call-uses t) (call-at t) call.Post
 call-returns t c =
     let g = c .before .before .before .before .before .before .args in
     let p = c .before .before .before .before .before .before .pre .1 in
-    queue-nothing (g .ws .now) (p .0 .ready .whole) (g .at) (p .1) (g .a) (g .s) (g .c) (g .out .now) (g .pos) (p .2) (sym (c .before .member-decorated .ensures) ∙ not-true _ (c .if1 .taken)) (c .before .before .count-record .ensures)
+    queue-nothing (g .ws .now) (p .0 .ready .whole) (g .at) (p .1) (g .a) (g .s) (g .c) (g .out .now) (g .pos) (p .2) (sym (allowed-mark (g .at) (p .2) (p .0 .ready .planned) (p .1)) ∙ ne-eqb _ 1 (c .if1 .taken)) (c .before .before .count-record .ensures)
 
 call-put-requires : (t : ℕ) → call-lts.Need-put-requires (call-uses t) (call-at t) call.Post
 call-put-requires t c κs =
@@ -618,7 +621,7 @@ call-entries-requires : (t : ℕ) → call-lts.Need-entries-requires (call-uses 
 call-entries-requires t c κs =
     let g = c .before .before .before .before .before .before .before .before .before .before .before .before .before .before .before .args in
     let p = c .before .before .before .before .before .before .before .before .before .before .before .before .before .before .before .pre .1 in
-    let d = sym (c .before .before .before .before .before .before .before .before .before .before .member-decorated .ensures) ∙ not-false _ (c .before .before .before .before .before .before .before .before .before .if1 .left) in
+    let d = sym (allowed-mark (g .at) (p .2) (p .0 .ready .planned) (p .1)) ∙ eq-eqb _ 1 (c .before .before .before .before .before .before .before .before .before .if1 .left) in
     let z = call-size (g .ws .now) (p .0 .ready .whole) (g .at) (p .1) (g .a) (g .s) (g .c) (p .3) d (c .before .before .before .before .before .before .before .before .before .before .before .count-record .ensures) in
     (omega (arith, c .before .before .before .before .before .before .before .before .before .before .before .before .before .before .before .pre .0), (asks-words (p .0) (c .before .before .before .put2 .result + 1) (size (entries′ (wordBelow (g .c)) (g .ws .now) (aroundOf (g .a)) (g .at) (stateIn (g .s)))) (omega (arith, z, p .0 .fit, c .before .before .before .before .before .before .before .put .ensures .end, c .before .before .before .put2 .ensures .end)), p .1, p .2, d))
 
@@ -626,7 +629,7 @@ call-put-requires-3 : (t : ℕ) → call-lts.Need-put-requires-3 (call-uses t) (
 call-put-requires-3 t c κs =
     let g = c .before .before .before .before .before .before .before .before .before .before .before .before .before .before .before .before .before .before .before .args in
     let p = c .before .before .before .before .before .before .before .before .before .before .before .before .before .before .before .before .before .before .before .pre .1 in
-    let d = sym (c .before .before .before .before .before .before .before .before .before .before .before .before .before .before .member-decorated .ensures) ∙ not-false _ (c .before .before .before .before .before .before .before .before .before .before .before .before .before .if1 .left) in
+    let d = sym (allowed-mark (g .at) (p .2) (p .0 .ready .planned) (p .1)) ∙ eq-eqb _ 1 (c .before .before .before .before .before .before .before .before .before .before .before .before .before .if1 .left) in
     let z = call-size (g .ws .now) (p .0 .ready .whole) (g .at) (p .1) (g .a) (g .s) (g .c) (p .3) d (c .before .before .before .before .before .before .before .before .before .before .before .before .before .before .before .count-record .ensures) in
     let n = count-size (entries′ (wordBelow (g .c)) (g .ws .now) (aroundOf (g .a)) (g .at) (stateIn (g .s))) in
     (p .0 .stack, omega (arith, p .0 .fit, c .before .before .before .before .before .before .before .before .before .before .before .put .ensures .end, c .before .before .before .before .before .before .before .put2 .ensures .end), omega arith, omega (arith, z, n, p .0 .fit, c .before .before .before .entries .ensures .1))
@@ -635,13 +638,13 @@ call-arguments-requires : (t : ℕ) → call-lts.Need-arguments-requires (call-u
 call-arguments-requires t c κs =
     let g = c .before .before .before .before .before .before .before .before .before .before .before .before .before .before .before .before .before .before .before .before .before .before .before .args in
     let p = c .before .before .before .before .before .before .before .before .before .before .before .before .before .before .before .before .before .before .before .before .before .before .before .pre .1 in
-    let d = sym (c .before .before .before .before .before .before .before .before .before .before .before .before .before .before .before .before .before .before .member-decorated .ensures) ∙ not-false _ (c .before .before .before .before .before .before .before .before .before .before .before .before .before .before .before .before .before .if1 .left) in
+    let d = sym (allowed-mark (g .at) (p .2) (p .0 .ready .planned) (p .1)) ∙ eq-eqb _ 1 (c .before .before .before .before .before .before .before .before .before .before .before .before .before .before .before .before .before .if1 .left) in
     let k = c .before .before .before .before .before .before .before .before .before .before .before .before .before .before .before .before .before .before .before .count-record .ensures in
     let z = call-size (g .ws .now) (p .0 .ready .whole) (g .at) (p .1) (g .a) (g .s) (g .c) (p .3) d k in
     let f = ready-behind (p .0 .ready) k in
     let y = call-symbols (g .ws .now) (p .0 .ready .whole) (g .at) (p .1) (g .a) (g .s) (g .c) (p .3) d k (omega (arith, f .room)) (p .4) (p .5) in
     let w = length-words (g .c) (entries′ (wordBelow (g .c)) (g .ws .now) (aroundOf (g .a)) (g .at) (stateIn (g .s))) in
-    (p .0 .stack, omega (arith, z, w, p .0 .fit, c .before .before .before .before .before .before .before .before .before .before .before .before .before .before .before .put .ensures .end, c .before .before .before .before .before .before .before .before .before .before .before .put2 .ensures .end, c .before .before .before .before .before .before .before .entries .ensures .0 .end), omega (arith, p .1, p .0 .ready .few), y .0, y .1, omega (arith, f .room), y .2)
+    (p .0 .stack, omega (arith, z, w, p .0 .fit, c .before .before .before .before .before .before .before .before .before .before .before .before .before .before .before .put .ensures .end, c .before .before .before .before .before .before .before .before .before .before .before .put2 .ensures .end, c .before .before .before .before .before .before .before .entries .ensures .0 .end), omega (arith, p .1, p .0 .ready .few), y .0, y .1, omega (arith, f .room), y .2, p .0 .ready .planned .ends)
 
 call-same-length : (t : ℕ) → call-lts.Need-same-length (call-uses t) (call-at t) call.Post
 call-same-length t c = wrote-length (c .before .before .arguments .ensures) ∙ wrote-length (c .before .before .before .before .before .before .put3 .ensures) ∙ wrote-length (c .before .before .before .before .before .before .before .before .before .before .entries .ensures .0) ∙ wrote-length (c .before .before .before .before .before .before .before .before .before .before .before .before .before .before .put2 .ensures) ∙ wrote-length (c .before .before .before .before .before .before .before .before .before .before .before .before .before .before .before .before .before .before .put .ensures)
@@ -650,7 +653,7 @@ call-returns-2 : (t : ℕ) → call-lts.Need-returns-2 (call-uses t) (call-at t)
 call-returns-2 t c =
     let g = c .before .before .before .before .before .before .before .before .before .before .before .before .before .before .before .before .before .before .before .before .before .before .before .before .before .before .args in
     let p = c .before .before .before .before .before .before .before .before .before .before .before .before .before .before .before .before .before .before .before .before .before .before .before .before .before .before .pre .1 in
-    let d = sym (c .before .before .before .before .before .before .before .before .before .before .before .before .before .before .before .before .before .before .before .before .before .member-decorated .ensures) ∙ not-false _ (c .before .before .before .before .before .before .before .before .before .before .before .before .before .before .before .before .before .before .before .before .if1 .left) in
+    let d = sym (allowed-mark (g .at) (p .2) (p .0 .ready .planned) (p .1)) ∙ eq-eqb _ 1 (c .before .before .before .before .before .before .before .before .before .before .before .before .before .before .before .before .before .before .before .before .if1 .left) in
     queue-call (g .ws .now) (p .0 .ready .whole) (g .at) (p .1) (g .a) (g .s) (g .c) (p .3) d (c .before .before .before .before .before .before .before .before .before .before .before .before .before .before .before .before .before .before .before .before .before .before .count-record .ensures) (c .before .before .before .before .before .before .before .before .before .before .before .before .before .before .put2 .result) (c .before .before .before .before .before .before .before .before .before .before .entries .result .pos) (c .before .before .before .before .before .before .before .before .before .before .entries .result .count) (c .before .before .before .before .before .before .before .before .before .before .before .before .before .before .before .before .before .before .put .ensures) (c .before .before .before .before .before .before .before .before .before .before .before .before .before .before .put2 .ensures) (c .before .before .before .before .before .before .before .before .before .before .entries .ensures .0) (c .before .before .before .before .before .before .before .before .before .before .entries .ensures .1) (c .before .before .before .before .before .before .put3 .ensures) (c .before .before .arguments .ensures)
 
 abbrev calls-Inv-loop : calls-lts.InvT-loop
@@ -974,7 +977,7 @@ declared-add-class-id : (t : ℕ) → declared-lts.Need-add-class-id (declared-u
 declared-add-class-id t c = omega (arith, c .before .before .before .pre .1 .1, c .before .before .before .pre .1 .0 .ready .few)
 
 declared-class-id-requires : (t : ℕ) → declared-lts.Need-class-id-requires (declared-uses t) (declared-at t) declared.Post
-declared-class-id-requires t c κs = search needs
+declared-class-id-requires t c κs = c .before .before .before .pre .1 .0 .ready .planned .ends
 
 declared-kind-at-requires : (t : ℕ) → declared-lts.Need-kind-at-requires (declared-uses t) (declared-at t) declared.Post
 declared-kind-at-requires t c κs = search needs
@@ -1015,7 +1018,7 @@ elements-add-first-constructor : (t : ℕ) → elements-lts.Need-add-first-const
 elements-add-first-constructor t c = omega (arith, c .before .before .before .before .pre .1 .1, c .before .before .before .before .pre .1 .0 .ready .few)
 
 elements-first-constructor-requires : (t : ℕ) → elements-lts.Need-first-constructor-requires (elements-uses t) (elements-at t) elements.Post
-elements-first-constructor-requires t c κs = search needs
+elements-first-constructor-requires t c κs = c .before .before .before .before .pre .1 .0 .ready .planned .ends
 
 elements-add-records : (t : ℕ) → elements-lts.Need-add-records (elements-uses t) (elements-at t) elements.Post
 elements-add-records t c = omega (arith, c .before .before .before .before .before .before .before .pre .1 .1, c .before .before .before .before .before .before .before .pre .1 .0 .ready .few)
@@ -1203,7 +1206,7 @@ first-entries-add-first-constructor : (t : ℕ) → first-entries-lts.Need-add-f
 first-entries-add-first-constructor t c = omega (arith, c .before .before .before .before .pre .1 .1, c .before .before .before .before .pre .1 .0 .ready .few)
 
 first-entries-first-constructor-requires : (t : ℕ) → first-entries-lts.Need-first-constructor-requires (first-entries-uses t) (first-entries-at t) first-entries.Post
-first-entries-first-constructor-requires t c κs = search needs
+first-entries-first-constructor-requires t c κs = c .before .before .before .before .pre .1 .0 .ready .planned .ends
 
 first-entries-returns : (t : ℕ) → first-entries-lts.Need-returns (first-entries-uses t) (first-entries-at t) first-entries.Post
 first-entries-returns t c =
@@ -1259,7 +1262,7 @@ abbrev indexed-μ-loop : indexed-lts.MeasureT-loop
 indexed-μ-loop ws notes at j a c out₀ pos whole k q₀ i₀ p₀ n₀ d₀ out q i p n d = k - i
 
 indexed-count-record-requires : (t : ℕ) → indexed-lts.Need-count-record-requires (indexed-uses t) (indexed-at t) indexed.Post indexed-Inv-loop indexed-μ-loop
-indexed-count-record-requires t c κs = (c .before .before .before .pre .1 .0 .ready, c .before .before .before .pre .1 .0 .noted, c .before .before .before .pre .1 .1)
+indexed-count-record-requires t c κs = (c .before .before .before .pre .1 .0 .ready, c .before .before .before .pre .1 .0 .noted, c .before .before .before .pre .1 .1, ap isWalked (c .before .before .before .pre .1 .2) ∙ (unfold isWalked in refl))
 
 indexed-add-children-at : (t : ℕ) → indexed-lts.Need-add-children-at (indexed-uses t) (indexed-at t) indexed.Post indexed-Inv-loop indexed-μ-loop
 indexed-add-children-at t c = omega (arith, c .before .before .before .before .pre .1 .1, c .before .before .before .before .pre .1 .0 .ready .few)
@@ -1396,7 +1399,7 @@ list-returns t c =
     emit-list (g .ws .now) (g .at) (g .a) (g .s) (g .c) (f .1) (c .before .before .before .before .kind-at .result) (c .before .before .before .before .before .before .before .before .before .children-at .result) (f .2) (c .before .before .before .before .kind-at .ensures) (c .before .before .before .before .before .before .before .before .before .children-at .ensures .0) (c .before .before .before .before .before .before .before .records .ensures) (c .before .before .put .ensures)
 
 live-class-count-record-requires : (t : ℕ) → live-class-lts.Need-count-record-requires (live-class-uses t) (live-class-at t) live-class.Post
-live-class-count-record-requires t c κs = (c .before .before .before .pre .1 .0 .ready, c .before .before .before .pre .1 .0 .noted, c .before .before .before .pre .1 .1)
+live-class-count-record-requires t c κs = (c .before .before .before .pre .1 .0 .ready, c .before .before .before .pre .1 .0 .noted, c .before .before .before .pre .1 .1, ap isWalked (c .before .before .before .pre .1 .2) ∙ (unfold isWalked in refl))
 
 live-class-plan-at-requires : (t : ℕ) → live-class-lts.Need-plan-at-requires (live-class-uses t) (live-class-at t) live-class.Post
 live-class-plan-at-requires t c κs =
@@ -1491,7 +1494,7 @@ live-class-returns-2 t c =
     statement-emitted (c .before .before .before .before .before .before .before .before .before .before .before .before .before .before .before .before .before .before .before .before .before .args .a) (c .before .before .before .before .before .before .before .before .before .before .before .before .before .before .before .before .before .before .before .before .before .args .s) (p .0) (p .1) (p .2) (p .3) (c .before .before .before .before .before .before .before .before .before .before .before .before .before .before .before .before .plan-at .ensures) (c .before .before .before .before .before .before .before .before .before .before .before .before .before .before .before .payload-at .result) (c .before .before .before .before .before .before .before .before .before .before .before .before .before .before .before .payload-at .ensures .0) (c .before .before .before .before .before .before .before .before .before .before .before .before .before .before .before .before .before .count-record .ensures) (c .before .before .before .before .before .before .before .before .before .before .before .before .before .class-head .ensures) (c .before .before .before .before .before .before .before .before .before .transform-class .ensures) (wrote-part-past (c .before .before .before .before .before .before .before .before .before .transform-class .last .1 .1 .1 .1 .1 .1 .0) (length (c .before .before .before .before .before .before .before .before .before .transform-class .last .1 .1 .1 .1 .1 .1 .0)) {ws = queueWords (c .before .before .before .before .before .before .before .before .before .before .before .before .before .before .before .before .before .before .before .before .before .args .ws .now) (c .before .before .before .before .before .before .before .before .before .before .before .before .before .before .before .before .before .before .before .before .before .args .at) (c .before .before .before .before .before .before .before .before .before .before .before .before .before .before .before .before .before .before .before .before .before .args .s .next) (wordBelow (c .before .before .before .before .before .before .before .before .before .before .before .before .before .before .before .before .before .before .before .before .before .args .c))} (c .before .before .before .before .before .before .before .before .before .transform-class .result) (omega arith) (omega (arith, c .before .before .before .before .before .before .if1 .left)) (c .before .before .before .before .queue2 .ensures .0)) (c .before .before .before .before .queue2 .ensures .1)
 
 member-count-record-requires : (t : ℕ) → member-lts.Need-count-record-requires (member-uses t) (member-at t) member.Post
-member-count-record-requires t c κs = (c .before .before .before .pre .1 .0 .ready, c .before .before .before .pre .1 .0 .noted, c .before .before .before .pre .1 .1)
+member-count-record-requires t c κs = (c .before .before .before .pre .1 .0 .ready, c .before .before .before .pre .1 .0 .noted, c .before .before .before .pre .1 .1, element-single _ (c .before .before .before .pre .1 .2))
 
 member-kind-at-requires : (t : ℕ) → member-lts.Need-kind-at-requires (member-uses t) (member-at t) member.Post
 member-kind-at-requires t c κs = search needs
@@ -1513,7 +1516,7 @@ member-key-assignment-requires : (t : ℕ) → member-lts.Need-key-assignment-re
 member-key-assignment-requires t c κs =
     let p = c .before .before .before .before .before .before .before .before .before .before .before .before .before .before .before .pre .1 in
     let x = c .before .before .before .before .before .before .before .before .before .before .before .count-record .ensures in
-    (p .0 .stack, omega (arith, p .0 .fit, member-length (p .0) (p .1) (p .2) x, c .before .before .before .before .before .before .before .put .ensures .end, c .before .before .before .put2 .ensures .end), omega (arith, ready-behind (p .0 .ready) x .room), key-least (p .0) (p .1) (p .2) x)
+    (p .0 .stack, omega (arith, p .0 .fit, member-length (p .0) (p .1) (p .2) x, c .before .before .before .before .before .before .before .put .ensures .end, c .before .before .before .put2 .ensures .end), omega (arith, ready-behind (p .0 .ready) x .room), key-least (p .0) (p .1) (p .2) x, p .0 .ready .planned, p .1, p .2, omega (arith, p .1, p .0 .ready .few))
 
 member-bare-requires : (t : ℕ) → member-lts.Need-bare-requires (member-uses t) (member-at t) member.Post
 member-bare-requires t c κs =
@@ -1522,7 +1525,7 @@ member-bare-requires t c κs =
     (omega (arith, c .before .before .before .before .before .before .before .before .before .before .before .before .before .before .before .before .before .before .before .pre .0), (asks-words (p .0) _ _ (omega (arith, p .0 .fit, z, c .before .before .before .before .before .before .before .before .before .before .before .put .ensures .end, c .before .before .before .before .before .before .before .put2 .ensures .end, c .before .before .before .key-assignment .ensures .end)), p .1, p .2))
 
 member-same-length : (t : ℕ) → member-lts.Need-same-length (member-uses t) (member-at t) member.Post
-member-same-length t c = c .before .before .bare .kept .1 .1 .1 .1 .1 .1 .0 ∙ c .before .before .before .before .before .before .key-assignment .kept .1 .1 .1 .1 .1 .0 ∙ c .before .before .before .before .before .before .before .before .before .before .put2 .kept .1 .1 .1 .0 ∙ c .before .before .before .before .before .before .before .before .before .before .before .before .before .before .put .kept .1 .1 .1 .0
+member-same-length t c = c .before .before .bare .kept .1 .1 .1 .1 .1 .1 .0 ∙ c .before .before .before .before .before .before .key-assignment .kept .1 .1 .1 .1 .1 .1 .0 ∙ c .before .before .before .before .before .before .before .before .before .before .put2 .kept .1 .1 .1 .0 ∙ c .before .before .before .before .before .before .before .before .before .before .before .before .before .before .put .kept .1 .1 .1 .0
 
 member-returns : (t : ℕ) → member-lts.Need-returns (member-uses t) (member-at t) member.Post
 member-returns t c =
@@ -1535,7 +1538,7 @@ parameter-add-count-record t c = omega (arith, c .before .before .before .pre .1
 parameter-count-record-requires : (t : ℕ) → parameter-lts.Need-count-record-requires (parameter-uses t) (parameter-at t) parameter.Post
 parameter-count-record-requires t c κs =
     let p = c .before .before .before .pre .1 in
-    (ready-next (p .0 .ready) (p .1), noted-next (p .0), parameter-marked _ _ (p .0 .ready .whole) (p .1) (p .2) .place)
+    (ready-next (p .0 .ready) (p .1), noted-next (p .0), parameter-marked _ _ (p .0 .ready .whole) (p .1) (p .2) .place, ap isWalked (parameter-marked _ _ (p .0 .ready .whole) (p .1) (p .2) .kind) ∙ (unfold isWalked in refl))
 
 parameter-payload-at-requires : (t : ℕ) → parameter-lts.Need-payload-at-requires (parameter-uses t) (parameter-at t) parameter.Post
 parameter-payload-at-requires t c κs = search needs
@@ -1827,7 +1830,7 @@ record-mul-w : (t : ℕ) → record-lts.Need-mul-w (record-uses t) (record-at t)
 record-mul-w t c = omega (arith, c .before .before .before .pre .1 .1, c .before .before .before .pre .1 .0 .ready .few)
 
 record-shared-slice-read-w : (t : ℕ) → record-lts.Need-shared-slice-read-w (record-uses t) (record-at t) record.Post
-record-shared-slice-read-w t c = omega (arith, c .before .before .before .before .pre .1 .0 .ready .planned .long, c .before .before .before .before .pre .1 .1)
+record-shared-slice-read-w t c = omega (arith, c .before .before .before .before .pre .1 .0 .ready .planned .ends .long, c .before .before .before .before .pre .1 .1)
 
 record-cast-copied : (t : ℕ) → record-lts.Need-cast-copied (record-uses t) (record-at t) record.Post
 record-cast-copied t c =
@@ -2415,7 +2418,8 @@ pub +bare+call+calls+class-body+class-statement+create-assignment+declared+eleme
     (λ t. call-lts.spec (call-uses t) (call-at t)
     call.Post
     (call-count-record-requires t)
-    (call-member-decorated-requires t)
+    (call-mul-if1 t)
+    (call-shared-slice-read-if1 t)
     (call-returns t)
     (call-put-requires t)
     (call-put-requires-2 t)

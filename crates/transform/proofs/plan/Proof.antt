@@ -1,5 +1,5 @@
 -- `plan`: by whether the class is decorated and has an id.
-use Rattle.counter.specs.Contract.{aliasIn}
+use Rattle.counter.specs.Contract.{markIn}
 use mathlib.Core.Path.{refl, _∙_}
 use Prim.Native.Nat.{_+_}
 use native.Mathlib.Omega.{arith}
@@ -17,25 +17,28 @@ add-class-id : tie.Need-add-class-id
 add-class-id c = search needs
 
 class-id-requires : tie.Need-class-id-requires
-class-id-requires c κs = search needs
+class-id-requires c κs = c .before .before .pre .2 .ends
 
-add-check-class-has-decorated : tie.Need-add-check-class-has-decorated
-add-check-class-has-decorated c = search needs
+add-decorated : tie.Need-add-decorated
+add-decorated c = search needs
 
-check-class-has-decorated-requires : tie.Need-check-class-has-decorated-requires
-check-class-has-decorated-requires c κs = search needs
+mul-decorated : tie.Need-mul-decorated
+mul-decorated c = search needs
+
+shared-slice-read-decorated : tie.Need-shared-slice-read-decorated
+shared-slice-read-decorated c = omega (arith, c .before .before .before .before .pre .2 .ends .long, c .before .before .before .before .pre .5)
 
 add-has-private-in-expression : tie.Need-add-has-private-in-expression
 add-has-private-in-expression c = search needs
 
 has-private-in-expression-requires : tie.Need-has-private-in-expression-requires
-has-private-in-expression-requires c κs = search needs
+has-private-in-expression-requires c κs = c .before .before .before .before .pre .2 .ends
 
 add-body : tie.Need-add-body
 add-body c = search needs
 
 body-requires : tie.Need-body-requires
-body-requires c κs = search needs
+body-requires c κs = c .before .before .before .before .before .pre .2 .ends
 
 children-at-requires : tie.Need-children-at-requires
 children-at-requires c κs = search needs
@@ -44,13 +47,13 @@ add-has-static : tie.Need-add-has-static
 add-has-static c = search needs
 
 has-static-requires : tie.Need-has-static-requires
-has-static-requires c κs = search needs
+has-static-requires c κs = c .before .before .before .before .before .before .before .pre .2 .ends
 
 add-call-count : tie.Need-add-call-count
 add-call-count c = search needs
 
 call-count-requires : tie.Need-call-count-requires
-call-count-requires c κs = search needs
+call-count-requires c κs = c .before .before .before .before .before .before .before .before .pre .2 .ends
 
 cast-calls : tie.Need-cast-calls
 cast-calls c = omega (arith, c .call-count .ensures, called-few (c .before .before .before .before .before .before .before .before .before .args .ws .now) (c .before .before .before .body .result + 1) (c .before .before .children-at .result), c .before .before .before .before .before .before .before .before .before .pre .0)
@@ -63,19 +66,19 @@ returns c =
     let a = c .before .before .before .before .before .before .before .before .before .before .before .before .args in
     let k = takeF (c .before .before .before .before .before .children-at .result) (recordsAt (a .ws .now) (c .before .before .before .before .before .before .body .result + 1)) in
     plan-from k (kids-row (a .ws .now) (c .before .before .before .before .before .before .body .result) (c .before .before .before .before .before .children-at .result) (c .before .before .before .before .before .children-at .ensures .0) ∙ c .before .before .before .before .before .before .body .ensures .0)
-    (c .before .before .before .before .before .before .before .before .before .class-id .ensures .0) (c .before .before .before .before .before .before .before .before .check-class-has-decorated .ensures) (c .before .before .before .before .before .before .before .has-private-in-expression .ensures) (c .before .before .before .before .has-static .ensures) (c .before .before .before .call-count .ensures)
-    (found-nameless (aliasIn (getD (a .notes .now) (a .at) 0)) (a .s .next) (a .s .default) _ (c .before .before .before .before .before .before .before .before .before .before .before .before .pre .3) (c .before .before .before .before .before .before .before .before .before .before .before .before .pre .4) (c .before .before .before .before .before .before .before .before .before .class-id .ensures .1) (c .before .before .if1 .taken) (c .before .if2 .taken) (c .symbol-of .ensures .0 (inr (omega (arith, c .before .before .before .before .before .before .before .before .before .before .before .before .pre .3)))) refl refl)
+    (c .before .before .before .before .before .before .before .before .before .class-id .ensures .0) (c .before .before .before .before .before .before .before .before .before .before .before .before .pre .2 .classes (a .at + 1) (c .before .before .before .before .before .before .before .before .before .before .before .before .pre .5) (c .before .before .before .before .before .before .before .before .before .before .before .before .pre .6)) (c .before .before .before .before .before .before .before .has-private-in-expression .ensures) (c .before .before .before .before .has-static .ensures) (c .before .before .before .call-count .ensures)
+    (found-nameless (markIn (getD (a .notes .now) (a .at) 0)) (a .s .next) (a .s .default) _ (c .before .before .before .before .before .before .before .before .before .before .before .before .pre .3) (c .before .before .before .before .before .before .before .before .before .before .before .before .pre .4) (c .before .before .before .before .before .before .before .before .before .class-id .ensures .1) (c .before .before .if1 .taken) (c .before .if2 .taken) (c .symbol-of .ensures .0 (inr (omega (arith, c .before .before .before .before .before .before .before .before .before .before .before .before .pre .3)))) refl refl)
 
 alias-of-requires : tie.Need-alias-of-requires
-alias-of-requires c κs = search needs
+alias-of-requires c κs = (omega (arith, c .before .before .before .before .before .before .before .before .before .before .before .pre .2 .ends .long, c .before .before .before .before .before .before .before .before .before .before .before .pre .1), c .before .before .before .before .before .before .before .before .before .before .before .pre .3)
 
 returns-2 : tie.Need-returns-2
 returns-2 c =
     let a = c .before .before .before .before .before .before .before .before .before .before .before .before .args in
     let k = takeF (c .before .before .before .before .before .children-at .result) (recordsAt (a .ws .now) (c .before .before .before .before .before .before .body .result + 1)) in
     plan-from k (kids-row (a .ws .now) (c .before .before .before .before .before .before .body .result) (c .before .before .before .before .before .children-at .result) (c .before .before .before .before .before .children-at .ensures .0) ∙ c .before .before .before .before .before .before .body .ensures .0)
-    (c .before .before .before .before .before .before .before .before .before .class-id .ensures .0) (c .before .before .before .before .before .before .before .before .check-class-has-decorated .ensures) (c .before .before .before .before .before .before .before .has-private-in-expression .ensures) (c .before .before .before .before .has-static .ensures) (c .before .before .before .call-count .ensures)
-    (found-named (aliasIn (getD (a .notes .now) (a .at) 0)) (a .s .next) (a .s .default) _ (c .before .before .before .before .before .before .before .before .before .before .before .before .pre .3) (c .before .before .before .before .before .before .before .before .before .before .before .before .pre .4) (c .before .before .before .before .before .before .before .before .before .class-id .ensures .1) (c .before .before .if1 .taken) (c .before .if2 .left) refl refl (c .alias-of .ensures .0) (c .alias-of .ensures .1))
+    (c .before .before .before .before .before .before .before .before .before .class-id .ensures .0) (c .before .before .before .before .before .before .before .before .before .before .before .before .pre .2 .classes (a .at + 1) (c .before .before .before .before .before .before .before .before .before .before .before .before .pre .5) (c .before .before .before .before .before .before .before .before .before .before .before .before .pre .6)) (c .before .before .before .before .before .before .before .has-private-in-expression .ensures) (c .before .before .before .before .has-static .ensures) (c .before .before .before .call-count .ensures)
+    (found-named (markIn (getD (a .notes .now) (a .at) 0)) (a .s .next) (a .s .default) _ (c .before .before .before .before .before .before .before .before .before .before .before .before .pre .3) (c .before .before .before .before .before .before .before .before .before .before .before .before .pre .4) (c .before .before .before .before .before .before .before .before .before .class-id .ensures .1) (c .before .before .if1 .taken) (c .before .if2 .left) refl refl (c .alias-of .ensures .0) (c .alias-of .ensures .1))
 
 symbol-of-requires-2 : tie.Need-symbol-of-requires-2
 symbol-of-requires-2 c κs = search needs
@@ -85,8 +88,8 @@ returns-3 c =
     let a = c .before .before .before .before .before .before .before .before .before .before .before .args in
     let k = takeF (c .before .before .before .before .children-at .result) (recordsAt (a .ws .now) (c .before .before .before .before .before .body .result + 1)) in
     plan-from k (kids-row (a .ws .now) (c .before .before .before .before .before .body .result) (c .before .before .before .before .children-at .result) (c .before .before .before .before .children-at .ensures .0) ∙ c .before .before .before .before .before .body .ensures .0)
-    (c .before .before .before .before .before .before .before .before .class-id .ensures .0) (c .before .before .before .before .before .before .before .check-class-has-decorated .ensures) (c .before .before .before .before .before .before .has-private-in-expression .ensures) (c .before .before .before .has-static .ensures) (c .before .before .call-count .ensures)
-    (found-undecorated (aliasIn (getD (a .notes .now) (a .at) 0)) (a .s .next) (a .s .default) _ (c .before .before .before .before .before .before .before .before .before .before .before .pre .3) (c .before .before .before .before .before .before .before .before .before .before .before .pre .4) (c .before .before .before .before .before .before .before .before .class-id .ensures .1) (c .before .if1 .left) (c .symbol-of2 .ensures .1) refl)
+    (c .before .before .before .before .before .before .before .before .class-id .ensures .0) (c .before .before .before .before .before .before .before .before .before .before .before .pre .2 .classes (a .at + 1) (c .before .before .before .before .before .before .before .before .before .before .before .pre .5) (c .before .before .before .before .before .before .before .before .before .before .before .pre .6)) (c .before .before .before .before .before .before .has-private-in-expression .ensures) (c .before .before .before .has-static .ensures) (c .before .before .call-count .ensures)
+    (found-undecorated (markIn (getD (a .notes .now) (a .at) 0)) (a .s .next) (a .s .default) _ (c .before .before .before .before .before .before .before .before .before .before .before .pre .3) (c .before .before .before .before .before .before .before .before .before .before .before .pre .4) (c .before .before .before .before .before .before .before .before .class-id .ensures .1) (c .before .if1 .left) (c .symbol-of2 .ensures .1) refl)
 
 pub plan-spec : {M : Type 1} → statement M
 plan-spec =
@@ -94,8 +97,9 @@ plan-spec =
     (tie.spec
     add-class-id
     class-id-requires
-    add-check-class-has-decorated
-    check-class-has-decorated-requires
+    add-decorated
+    mul-decorated
+    shared-slice-read-decorated
     add-has-private-in-expression
     has-private-in-expression-requires
     add-body

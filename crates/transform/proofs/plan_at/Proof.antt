@@ -1,6 +1,7 @@
 -- `plan_at`: the state behind the class's children is found by counting.
 use borrow.Author.Needs.{needs}
 use native.Mathlib.Omega.{arith}
+use Rattle.walk_laws.specs.Kinds.{class-inside, class-kind}
 use Rattle.counter.specs.Steps.{ready-next}
 use Rattle.counter.specs.Totals.{noted-on}
 use Rattle.transform.specs.Plans.{plan-default, plan-next, plans}
@@ -11,7 +12,7 @@ add-class-id : tie.Need-add-class-id
 add-class-id c = search needs
 
 class-id-requires : tie.Need-class-id-requires
-class-id-requires c κs = search needs
+class-id-requires c κs = c .before .before .pre .0 .planned .ends
 
 add-count-records : tie.Need-add-count-records
 add-count-records c = search needs
@@ -24,7 +25,7 @@ count-records-requires c κs =
 plan-requires : tie.Need-plan-requires
 plan-requires c κs =
     let p = c .before .before .before .before .pre in
-    (p .0 .few, p .1, p .0 .planned .long, plan-next (p .0) (p .1) (p .2) (p .3) _ (c .before .class-id .ensures .0) (c .count-records .ensures), plan-default (p .0) (p .1) (p .2) (p .3) _ (c .before .class-id .ensures .0) (c .count-records .ensures))
+    (p .0 .few, p .1, p .0 .planned, plan-next (p .0) (p .1) (p .2) (p .3) _ (c .before .class-id .ensures .0) (c .count-records .ensures), plan-default (p .0) (p .1) (p .2) (p .3) _ (c .before .class-id .ensures .0) (c .count-records .ensures), class-inside (c .before .before .before .before .args .ws .now) (p .0 .whole) (c .before .before .before .before .args .at) (p .1) (p .2), class-kind (c .before .before .before .before .args .ws .now) (p .0 .whole) (c .before .before .before .before .args .at) (p .1) (p .2))
 
 returns : tie.Need-returns
 returns c =

@@ -1,10 +1,10 @@
--- The classes that take an alias (rule 6), by their records as read: the same that the search in the rewritten elements finds, whatever the counter in
+-- The marks of records: the classes that take an alias (rule 6), by their records as read: the same that the search in the rewritten elements finds, whatever the counter in
 -- front of the class. Assumes nothing.
 use mathlib.Core.Path.{_≡_, refl, ap, sym, _∙_}
-use mathlib.Core.Bool.{Bool, true, false, _&&_, and-false}
+use mathlib.Core.Bool.{Bool, true, false, _&&_, _||_, and-false, or-false}
 use mathlib.Core.Option.{Option, none, some}
 use mathlib.Core.List.{List, [], _∷_}
-use Prim.Native.Nat.{ℕ, _+_, _<_, _≤_}
+use Prim.Native.Nat.{ℕ, _+_, _/_, _<_, _≤_}
 use native.Mathlib.Omega.{arith}
 use lib.Dec.{eqb}
 use lib.ListN.{length, getD, set, length-set}
@@ -12,11 +12,13 @@ use lib.Seq.{getD-set-same, getD-set-other}
 use borrow.Author.Tests.{eqb-true, eqb-false, eq-eqb, ne-eqb}
 use Rattle.records.specs.Forest.{takeF, anyF}
 use Rattle.records.specs.Label.{Trees, is}
+use Rattle.records.specs.Ends.{Ends, ends-set}
 use Rattle.records.specs.Place.{recordsAt, labelAt, kidsAt}
 use Rattle.grammar.specs.Grammar.{module′}
 use Rattle.grammar.specs.WellFormed.{Fits}
-use Rattle.rewriting.specs.Parts.{elementsOf, idOf, isDecorated, isLive}
+use Rattle.rewriting.specs.Parts.{elementsOf, idOf, isDecorated, isDecoratedMember, isLive}
 use Rattle.rewriting.specs.Visit.{Result, isRef, visit}
+use Rattle.inspect.specs.Class.{member-other}
 use Rattle.walk_laws.specs.Rows.{visitAt, fresh, kids-visit}
 use Rattle.walk_laws.specs.After.{mentioned}
 use Rattle.walk_laws.specs.Slots.{Standing, standing-at}
@@ -26,8 +28,8 @@ use Rattle.alias_search.specs.Mentions.{isSymbol, mentions}
 use Rattle.alias_search.specs.Older.{Older, visit-older}
 use Rattle.alias_search.specs.Formed.{Formed}
 use Rattle.alias_search.specs.Search.{mentions-visited}
-use Rattle.counter.specs.Contract.{Below, elementsFrom, aliasIn, Planned}
-use Rattle.alias_table.specs.Formed.{fits-formed}
+use Rattle.counter.specs.Contract.{Below, elementsFrom, markIn, Planned}
+use Rattle.mark_table.specs.Formed.{fits-formed}
 
 -- does a class with this id name itself in the elements read
 unfoldable pub mentionsId : Option ℕ → Trees → Bool
@@ -39,6 +41,10 @@ unfoldable pub takesAlias : List ℕ → ℕ → Bool
 takesAlias ws at =
     is 4 (labelAt ws at) && isLive (takeF 1 (recordsAt ws (at + 1))) && isDecorated (kidsAt ws (at + 1)) &&
     mentionsId (idOf (kidsAt ws (at + 1))) (elementsOf (kidsAt ws (at + 1)))
+
+-- is the record at `at` marked: such a class statement, a decorated class (rule 6) or a decorated member (rule 3)
+unfoldable pub isMarked : List ℕ → ℕ → Bool
+isMarked ws at = takesAlias ws at || (is 26 (labelAt ws at) && isDecorated (kidsAt ws at)) || isDecoratedMember (labelAt ws at) (kidsAt ws at)
 
 -- ---- the search in the rewritten elements
 
@@ -96,20 +102,44 @@ module _ (ws : List ℕ) (at : ℕ) where
   unfolding mentionsId
   searched-id c e = rw e
 
+-- ---- what a mark says, by the kind
+
+module _ (ws : List ℕ) (at : ℕ) where
+  pub marked-statement : labelAt ws at .kind ≡ 4 → isMarked ws at ≡ takesAlias ws at
+  unfolding isMarked is
+  marked-statement e =
+      let other : (labelAt ws at .kind ≡ 26 → ⊥) = λ g. omega (arith, e, g) in
+      let none : isDecoratedMember (labelAt ws at) (kidsAt ws at) ≡ false = member-other (labelAt ws at) (kidsAt ws at) (λ g. omega (arith, e, g)) (λ g. omega (arith, e, g)) (λ g. omega (arith, e, g)) in
+      rw (ne-eqb (labelAt ws at .kind) 26 other, none, or-false, or-false)
+
+  pub marked-class : labelAt ws at .kind ≡ 26 → isMarked ws at ≡ isDecorated (kidsAt ws at)
+  unfolding isMarked is
+  marked-class e =
+      let none : isDecoratedMember (labelAt ws at) (kidsAt ws at) ≡ false = member-other (labelAt ws at) (kidsAt ws at) (λ g. omega (arith, e, g)) (λ g. omega (arith, e, g)) (λ g. omega (arith, e, g)) in
+      rw (not-statement ws at (λ g. omega (arith, e, g)), eq-eqb (labelAt ws at .kind) 26 e, none, or-false)
+
+  pub marked-member : (labelAt ws at .kind ≡ 4 → ⊥) → (labelAt ws at .kind ≡ 26 → ⊥) → isMarked ws at ≡ isDecoratedMember (labelAt ws at) (kidsAt ws at)
+  unfolding isMarked is
+  marked-member n m = rw (not-statement ws at n, ne-eqb (labelAt ws at .kind) 26 m)
+
 -- ---- the loop over the places
 
 -- the entries of the places below i, in a table of m entries
 pub record Done (ws notes : List ℕ) (m i : ℕ) : Type 0 where
   pub long : length notes ≡ m
-  pub right : (j : ℕ) → j < i → aliasIn (getD notes j 0) ≡ takesAlias ws j
+  pub ends : Ends ws notes 0
+  pub right : (j : ℕ) → j < i → markIn (getD notes j 0) ≡ isMarked ws j
 
-pub done-start : (ws notes : List ℕ) → Done ws notes (length notes) 0
-done-start ws notes = record { long = refl; right = λ j h. absurd (omega arith) }
+pub done-start : {ws notes : List ℕ} → Ends ws notes 0 → Done ws notes (length notes) 0
+done-start e = record { long = refl; ends = e; right = λ j h. absurd (omega arith) }
 
-pub done-next : {ws notes : List ℕ} {m i : ℕ} (v : ℕ) → Done ws notes m i → i < length notes → aliasIn v ≡ takesAlias ws i → Done ws (set notes i v) m (i + 1)
-done-next {ws} {notes} {m} {i} v d h e = record { long = length-set notes i v ∙ d .long; right = λ j l. go j l (eqb j i) refl }
+pub done-next : {ws notes : List ℕ} {m i : ℕ} (v : ℕ) → Done ws notes m i → i < length ws → v / 65536 ≡ getD notes i 0 / 65536 → markIn v ≡ isMarked ws i → Done ws (set notes i v) m (i + 1)
+done-next {ws} {notes} {m} {i} v d w p e = record { long = length-set notes i v ∙ d .long; ends = ends-set v (d .ends) λ l. p ∙ d .ends .right i (omega arith) l; right = λ j l. go j l (eqb j i) refl }
   where
-    go : (j : ℕ) → j < i + 1 → (x : Bool) → eqb j i ≡ x → aliasIn (getD (set notes i v) j 0) ≡ takesAlias ws j
+    h : i < length notes
+    h = omega (arith, w, d .ends .long)
+
+    go : (j : ℕ) → j < i + 1 → (x : Bool) → eqb j i ≡ x → markIn (getD (set notes i v) j 0) ≡ isMarked ws j
     go j l true s =
         let same : j ≡ i = eqb-true j i s in
         rw (same, getD-set-same notes i v 0 h) e
@@ -117,9 +147,11 @@ done-next {ws} {notes} {m} {i} v d h e = record { long = length-set notes i v �
         let other : j ≡ i → ⊥ = eqb-false j i s in
         rw (getD-set-other notes i j v 0 other) (d .right j (omega arith))
 
-pub done-planned : {ws notes : List ℕ} {m i : ℕ} → Fits (module′ ∷ []) (recordsAt ws 0) → length ws ≤ m → length ws ≤ i → Done ws notes m i → Planned ws notes
-done-planned {ws} {notes} {m} {i} whole long all d = record {
-  long = omega (arith, d .long);
+pub done-planned : {ws notes : List ℕ} {m i : ℕ} → Fits (module′ ∷ []) (recordsAt ws 0) → length ws ≤ i → Done ws notes m i → Planned ws notes
+done-planned {ws} {notes} {m} {i} whole all d = record {
+  ends = d .ends;
   right = λ at n h kind live decorated below.
-      d .right at (omega arith) ∙ searched ws at kind live decorated ∙ sym (mentioned-same ws whole at h kind n (idOf (kidsAt ws (at + 1))) below);
+      d .right at (omega arith) ∙ marked-statement ws at kind ∙ searched ws at kind live decorated ∙ sym (mentioned-same ws whole at h kind n (idOf (kidsAt ws (at + 1))) below);
+  classes = λ at h kind. d .right at (omega arith) ∙ marked-class ws at kind;
+  members = λ at h n m. d .right at (omega arith) ∙ marked-member ws at n m;
 }
