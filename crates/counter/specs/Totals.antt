@@ -372,6 +372,17 @@ module _ {ws notes : List ℕ} {at : ℕ} (w : Walks ws notes at) (h : at < leng
           ap (keyAfter (hasPlainKey (kidsAt ws at))) (sym (taken-fresh (a .id) (n + c) d (small n f) i (no-default d (g ∙ y)))) ∙ key-after (n + c + 1) (n + c)
           ∙ cc (sum-one n c key, from-some c n d (λ e. omega (arith, small n f)))
 
+  -- a record without a mark that is neither a class nor a body
+  pub total-unmarked : isWalked (labelAt ws at .kind) ≡ false → markIn (getD notes at 0) ≡ false → Totals ws at 1 a has (record { at = x / 65536; count = x / 4 % 16384; default = 67108864 })
+  total-unmarked e m = go (isElementKind (labelAt ws at .kind)) refl
+    where
+      go : (b : Bool) → isElementKind (labelAt ws at .kind) ≡ b → Totals ws at 1 a has (record { at = x / 65536; count = x / 4 % 16384; default = 67108864 })
+      go true k = total-plain k (sym (element-mark at (w .ready .planned) h k) ∙ m)
+      go false k =
+          total-quiet (λ g. kinds-apart isWalked 26 _ (unfold isWalked in refl) e (sym g)) (λ g. kinds-apart isWalked 29 _ (unfold isWalked in refl) e (sym g))
+          (λ g. kinds-apart isElementKind 30 _ (unfold isElementKind in refl) k (sym g)) (λ g. kinds-apart isElementKind 31 _ (unfold isElementKind in refl) k (sym g))
+          (λ g. kinds-apart isElementKind 32 _ (unfold isElementKind in refl) k (sym g))
+
 -- ---- rule 6: a live class
 
 class-after : (x : Bool) (o : Option ℕ) (m : Bool) (n e : ℕ) → classAfter x o m (stateOf n e) ≡ n + classCount x o m (hasDefault e)

@@ -171,8 +171,20 @@ fn is_walked(kind: u32) -> bool
     kind == 29
 }
 
-// Of the records that are neither a class nor a body only an element of a live class depends on the class around: all else is in the note.
+// Of the records that are neither a class nor a body only a decorated member of a live class depends on the class around: all else is in the note.
 fn total_single(ws: &[u32], notes: &[u32], at: usize, a: Scope, has: bool) -> Total
+    requires { ⌜ Walks (now ws) (now notes) at × (at < length (now ws)) × (isWalked (labelAt (now ws) at .kind) ≡ false) ⌝ }
+    ensures { λ r. ⌜ Totals (now (ws .entry)) at 1 a has r ⌝ }
+{
+    let w = notes[at];
+    if w % 2 == 0 {
+        return from_note(w);
+    }
+    total_marked(ws, notes, at, a, has)
+}
+
+// The same where the record may be a decorated member.
+fn total_marked(ws: &[u32], notes: &[u32], at: usize, a: Scope, has: bool) -> Total
     requires { ⌜ Walks (now ws) (now notes) at × (at < length (now ws)) × (isWalked (labelAt (now ws) at .kind) ≡ false) ⌝ }
     ensures { λ r. ⌜ Totals (now (ws .entry)) at 1 a has r ⌝ }
 {

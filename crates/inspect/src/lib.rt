@@ -1,5 +1,6 @@
-// The reader, and what is asked of records as they are read, by flat loops. Reads the words, writes nothing. Every function takes every place: past the
-// end of the words stands the word 0, and of the k records at a place there are fewer where the words end.
+// The reader, and what is asked of records as they are read, by flat loops that step by the notes of where records end. Reads the words and the notes,
+// writes nothing. Every function takes every place: past the end of the words stands the word 0, and of the k records at a place there are fewer where
+// the words end.
 ghost use mathlib.Core.Path.{_≡_};
 ghost use mathlib.Core.Bool.{not};
 ghost use Prim.Native.Nat.{_+_, _<_, _≤_};
@@ -457,7 +458,7 @@ pub fn contains(ws: &[u32], notes: &[u32], at: usize, k: usize, kind: u32) -> bo
     let e = records::behind(ws, notes, at, k);
     let mut i = at;
     while i < e {
-        if kind_at(ws, i) == kind {
+        if words::kind_of(ws[i]) == kind {
             return true;
         }
         i += 1;
