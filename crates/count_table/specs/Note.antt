@@ -253,7 +253,9 @@ filled-next {ws} {notes} {m} {i} v k d z t e = record {
     ends = ends-set v (d .planned .ends) λ l. t .place;
     right = λ at n h kind live dec z. same at (eqb at i) refl ∙ d .planned .right at n h kind live dec z;
     classes = λ at h kind. same at (eqb at i) refl ∙ d .planned .classes at h kind;
-    members = λ at h n m. same at (eqb at i) refl ∙ d .planned .members at h n m;
+    bodies = λ at h kind. same at (eqb at i) refl ∙ d .planned .bodies at h kind;
+    members = λ at h a b e f. same at (eqb at i) refl ∙ d .planned .members at h a b e f;
+    tests = λ m. d .planned .tests (sym (same 1 (eqb 1 i) refl) ∙ m);
   };
   noted = unfold Annotated in λ j l h. other j l h (eqb j i) refl;
 }

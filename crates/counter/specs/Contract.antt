@@ -15,6 +15,7 @@ use Rattle.grammar.specs.Grammar.{module′}
 use Rattle.grammar.specs.WellFormed.{Fits}
 use Rattle.rewriting.specs.Parts.{elementsOf, idOf, isDecorated, isDecoratedMember, isLive, classKids}
 use Rattle.rewriting.specs.Visit.{Around, State}
+use Rattle.inspect.specs.Row.{anyRow}
 use Rattle.inspect.specs.Child.{optOf}
 use Rattle.walk_laws.specs.Rows.{visitAt, fresh}
 use Rattle.walk_laws.specs.After.{mentioned}
@@ -50,13 +51,17 @@ abbrev pub stillIn : ℕ → Bool
 stillIn w = eqb (w / 2 % 2) 1
 
 -- the notes say where records end. The mark of a class statement says that its class takes an alias, exactly when rule 6's search finds its symbol, whatever
--- the counter in front of it; that of a class, whether it is decorated (rule 6); that of any other record, whether it is a decorated member (rule 3)
+-- the counter in front of it; that of a class, whether it is decorated (rule 6); that of a body, whether a member in it is decorated; that of the module's 40, at
+-- place 1, whether there may be a private-in test (rule 9); that of any other record, whether it is a decorated member (rule 3)
 pub record Planned (ws notes : List ℕ) : Type 0 where
   pub ends : Ends ws notes 0
   pub right : (at n : ℕ) → at < length ws → labelAt ws at .kind ≡ 4 → isLive (takeF 1 (recordsAt ws (at + 1))) ≡ true → isDecorated (kidsAt ws (at + 1)) ≡ true →
       Below n (idOf (kidsAt ws (at + 1))) → markIn (getD notes at 0) ≡ mentioned (idOf (kidsAt ws (at + 1))) (elementsFrom ws at n)
   pub classes : (at : ℕ) → at < length ws → labelAt ws at .kind ≡ 26 → markIn (getD notes at 0) ≡ isDecorated (kidsAt ws at)
-  pub members : (at : ℕ) → at < length ws → (labelAt ws at .kind ≡ 4 → ⊥) → (labelAt ws at .kind ≡ 26 → ⊥) → markIn (getD notes at 0) ≡ isDecoratedMember (labelAt ws at) (kidsAt ws at)
+  pub bodies : (at : ℕ) → at < length ws → labelAt ws at .kind ≡ 29 → markIn (getD notes at 0) ≡ anyRow isDecoratedMember (kidsAt ws at)
+  pub members : (at : ℕ) → at < length ws → (labelAt ws at .kind ≡ 4 → ⊥) → (labelAt ws at .kind ≡ 26 → ⊥) → (labelAt ws at .kind ≡ 29 → ⊥) → (labelAt ws at .kind ≡ 40 → ⊥) →
+      markIn (getD notes at 0) ≡ isDecoratedMember (labelAt ws at) (kidsAt ws at)
+  pub tests : markIn (getD notes 1 0) ≡ false → (at : ℕ) → at < length ws → labelAt ws at .kind ≡ 19 → ⊥
 
 -- a class and its body: what they take depends on the class around, and is not in their notes
 unfoldable pub isWalked : ℕ → Bool

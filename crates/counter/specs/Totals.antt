@@ -269,8 +269,11 @@ module _ {ws notes : List ℕ} {at : ℕ} (w : Walks ws notes at) (h : at < leng
 -- the mark of an element says whether it is a decorated member
 pub element-mark : {ws notes : List ℕ} (at : ℕ) → Planned ws notes → at < length ws → isElementKind (labelAt ws at .kind) ≡ true →
     markIn (getD notes at 0) ≡ isDecoratedMember (labelAt ws at) (kidsAt ws at)
-element-mark at p h kind =
-    p .members at h (kinds-apart isElementKind _ 4 kind (unfold isElementKind in refl)) (kinds-apart isElementKind _ 26 kind (unfold isElementKind in refl))
+unfolding isElementKind
+element-mark {ws} at p h kind = p .members at h (apart 4 refl) (apart 26 refl) (apart 29 refl) (apart 40 refl)
+  where
+    apart : (k : ℕ) → isElementKind k ≡ false → labelAt ws at .kind ≡ k → ⊥
+    apart k e = kinds-apart isElementKind (labelAt ws at .kind) k kind e
 
 module _ {ws notes : List ℕ} {at : ℕ} (w : Walks ws notes at) (h : at < length ws) (a : Scope) (has : Bool) (x : ℕ) (t : Noted ws at x) where
   total-by : ((b : Scope) (n d : ℕ) → Free ws at n → b .live ≡ a .live → Counts ws at 1 b n d (record { at = x / 65536; next = n + x / 4 % 16384; default = d })) →

@@ -16,7 +16,10 @@ use Rattle.counter.specs.Contract.{markIn, isWalked, Planned}
 module _ {ws notes : List ℕ} (at : ℕ) (e : Allowed element (labelAt ws at)) where
   pub allowed-mark : Planned ws notes → at < length ws → markIn (getD notes at 0) ≡ isDecoratedMember (labelAt ws at) (kidsAt ws at)
   allowed-mark p h =
-      p .members at h (eqb-false _ 4 (element-never (λ (k : ℕ). eqb k 4) (labelAt ws at) refl refl refl refl e)) (eqb-false _ 26 (element-never (λ (k : ℕ). eqb k 26) (labelAt ws at) refl refl refl refl e))
+      p .members at h (never 4 refl refl refl refl) (never 26 refl refl refl refl) (never 29 refl refl refl refl) (never 40 refl refl refl refl)
+    where
+      never : (k : ℕ) → eqb 30 k ≡ false → eqb 31 k ≡ false → eqb 32 k ≡ false → eqb 33 k ≡ false → labelAt ws at .kind ≡ k → ⊥
+      never k a b c d = eqb-false _ k (element-never (λ (j : ℕ). eqb j k) (labelAt ws at) a b c d e)
 
 pub allowed-single : (ws : List ℕ) (at : ℕ) → Allowed element (labelAt ws at) → isWalked (labelAt ws at .kind) ≡ false
 unfolding isWalked
