@@ -9,7 +9,7 @@ ghost use Rattle.records.specs.Forest.{end, takeF, anyF};
 ghost use Rattle.records.specs.Label.{is, readAt, _∶_};
 ghost use Rattle.records.specs.Ends.{Ends};
 ghost use Rattle.records.specs.Place.{recordsAt, labelAt, arityAt, kidsAt, endOf};
-ghost use Rattle.rewriting.specs.Parts.{isEmpty, decorators, ofParameters, parametersOf, elementsOf, isConstructor, isDecoratedMember, isPlainKey, hasPlainKey, constructorDecorated, hasStatic, firstConstructor, idOf, ofElements, hasPrivateIn, isLive, isDecorated, isDecoratedClass, anyRecord, isRefused7};
+ghost use Rattle.rewriting.specs.Parts.{isEmpty, decorators, ofParameters, parametersOf, elementsOf, isConstructor, isDecoratedMember, isPlainKey, hasPlainKey, constructorDecorated, hasStatic, firstConstructor, idOf, ofElements, hasPrivateIn, isLive, isDecorated, isDecoratedClass};
 ghost use Rattle.inspect.specs.Row.{anyRow, before};
 ghost use Rattle.inspect.specs.Child.{Found, DecoratorsAt, SecondWord, optOf};
 ghost use Rattle.inspect.specs.Class.{hasDecorators, constructs, isDecoratedConstructor, isStatic, countCalled};
@@ -379,6 +379,26 @@ pub fn first_constructor_decorated(ws: &[u32], notes: &[u32], at: usize, k: usiz
     class_method_parameter_is_decorated(ws, notes, records::behind(ws, notes, at, j))
 }
 
+// Rule 3: is there a decorated member?
+pub fn any_member_decorated(ws: &[u32], notes: &[u32], at: usize, k: usize) -> bool
+    requires { ⌜ Ends (now ws) (now notes) 0 ⌝ }
+    ensures { λ r. ⌜ r ≡ anyRow isDecoratedMember (takeF k (recordsAt (now (ws .entry)) at)) ⌝ }
+{
+    let mut q = at;
+    let mut i = 0;
+    while i < k {
+        if ws.len() <= q {
+            return false;
+        }
+        if member_decorated(ws, notes, q) {
+            return true;
+        }
+        q = records::behind(ws, notes, q, 1);
+        i += 1;
+    }
+    false
+}
+
 // The number of decorated members.
 pub fn call_count(ws: &[u32], notes: &[u32], at: usize, k: usize) -> usize
     requires { ⌜ Ends (now ws) (now notes) 0 ⌝ }
@@ -566,38 +586,4 @@ pub fn has_private_in_expression(ws: &[u32], notes: &[u32], at: usize) -> bool
     }
     let b = body(ws, notes, at);
     private_in_elements(ws, notes, b + 1, children_at(ws, b))
-}
-
-// ---- refusal 7
-
-// Of the record at `at`.
-pub fn is_refused_7(ws: &[u32], notes: &[u32], at: usize) -> bool
-    requires { ⌜ Ends (now ws) (now notes) 0 ⌝ }
-    ensures { λ r. ⌜ r ≡ isRefused7 (labelAt (now (ws .entry)) at) (kidsAt (now (ws .entry)) at) ⌝ }
-{
-    if kind_at(ws, at) != 4 {
-        return false;
-    }
-    if !is_live(ws, at + 1) {
-        return false;
-    }
-    if !check_class_has_decorated(ws, notes, at + 1) {
-        return false;
-    }
-    !class_decorated_first(ws, notes, at + 1)
-}
-
-// Of any record of the words.
-pub fn refused_7(ws: &[u32], notes: &[u32]) -> bool
-    requires { ⌜ Ends (now ws) (now notes) 0 ⌝ }
-    ensures { λ r. ⌜ r ≡ anyRecord isRefused7 (recordsAt (now (ws .entry)) 0) ⌝ }
-{
-    let mut i = 0;
-    while i < ws.len() {
-        if is_refused_7(ws, notes, i) {
-            return true;
-        }
-        i += 1;
-    }
-    false
 }

@@ -1,27 +1,31 @@
 -- The marks of records: the classes that take an alias (rule 6), by their records as read: the same that the search in the rewritten elements finds, whatever the counter in
 -- front of the class. Assumes nothing.
-use mathlib.Core.Path.{_≡_, refl, ap, sym, _∙_}
-use mathlib.Core.Bool.{Bool, true, false, _&&_, _||_, and-false, or-false}
+use mathlib.Core.Path.{_≡_, refl, ap, sym, subst, _∙_}
+use mathlib.Core.Bool.{Bool, true, false, _&&_, _||_, and-false, or-false, true≢false}
 use mathlib.Core.Option.{Option, none, some}
-use mathlib.Core.List.{List, [], _∷_}
-use Prim.Native.Nat.{ℕ, _+_, _/_, _<_, _≤_}
+use mathlib.Core.List.{List, [], _∷_, _++_}
+use Prim.Native.Nat.{ℕ, _+_, _-_, _/_, _<_, _≤_}
 use native.Mathlib.Omega.{arith}
-use lib.Dec.{eqb}
-use lib.ListN.{length, getD, set, length-set}
+use lib.Dec.{eqb, ltb}
+use lib.ListN.{length, getD, set, length-set, replicate}
 use lib.Seq.{getD-set-same, getD-set-other}
-use borrow.Author.Tests.{eqb-true, eqb-false, eq-eqb, ne-eqb}
-use Rattle.records.specs.Forest.{takeF, anyF}
-use Rattle.records.specs.Label.{Trees, is}
+use borrow.Author.Tests.{eqb-true, eqb-false, eq-eqb, ne-eqb, ltb-true, ltb-false}
+use Rattle.words.specs.Table.{lookup}
+use Rattle.records.specs.Forest.{end, node, takeF, anyF}
+use Rattle.records.specs.Label.{Label, Trees, is}
 use Rattle.records.specs.Ends.{Ends, ends-set}
-use Rattle.records.specs.Place.{recordsAt, labelAt, kidsAt}
-use Rattle.grammar.specs.Grammar.{module′}
-use Rattle.grammar.specs.WellFormed.{Fits}
+use Rattle.records.specs.Place.{recordsAt, labelAt, kidsAt, records-node, records-past}
+use Rattle.grammar.specs.Grammar.{module′, symbols, ownStatement, slotsBelow, slots, rowOf, table, row}
+use Rattle.grammar.specs.WellFormed.{Allowed, Fits}
+use Rattle.grammar.specs.Children.{allowed-sole}
+use Rattle.grammar.specs.Rows.{soleKind}
 use Rattle.rewriting.specs.Parts.{elementsOf, idOf, isDecorated, isDecoratedMember, isLive}
 use Rattle.rewriting.specs.Visit.{Result, isRef, visit}
+use Rattle.inspect.specs.Row.{anyRow}
 use Rattle.inspect.specs.Class.{member-other}
 use Rattle.walk_laws.specs.Rows.{visitAt, fresh, kids-visit}
 use Rattle.walk_laws.specs.After.{mentioned}
-use Rattle.walk_laws.specs.Slots.{Standing, standing-at}
+use Rattle.walk_laws.specs.Slots.{Standing, standing-at, kind-row, row-first}
 use Rattle.walk_laws.specs.ClassPlan.{rk, scope, bodyAt, atHeritage, atBody, els}
 use Rattle.walk_laws.specs.ClassFacts.{body-in, own-elements, elements-visited}
 use Rattle.alias_search.specs.Mentions.{isSymbol, mentions}
@@ -42,9 +46,19 @@ takesAlias ws at =
     is 4 (labelAt ws at) && isLive (takeF 1 (recordsAt ws (at + 1))) && isDecorated (kidsAt ws (at + 1)) &&
     mentionsId (idOf (kidsAt ws (at + 1))) (elementsOf (kidsAt ws (at + 1)))
 
--- is the record at `at` marked: such a class statement, a decorated class (rule 6) or a decorated member (rule 3)
+-- is the record at `at` marked: such a class statement, a decorated class (rule 6), a body with a decorated member or a decorated member (rule 3)
 unfoldable pub isMarked : List ℕ → ℕ → Bool
-isMarked ws at = takesAlias ws at || (is 26 (labelAt ws at) && isDecorated (kidsAt ws at)) || isDecoratedMember (labelAt ws at) (kidsAt ws at)
+isMarked ws at =
+    takesAlias ws at || (is 26 (labelAt ws at) && isDecorated (kidsAt ws at)) || (is 29 (labelAt ws at) && anyRow isDecoratedMember (kidsAt ws at)) ||
+    isDecoratedMember (labelAt ws at) (kidsAt ws at)
+
+-- the mark of a class that stands at i is right
+unfoldable pub ClassMark : List ℕ → List ℕ → ℕ → Type 0
+ClassMark ws notes i = i < length ws → labelAt ws i .kind ≡ 26 → markIn (getD notes i 0) ≡ isDecorated (kidsAt ws i)
+
+-- no private-in test stands at i or behind it, unless b
+unfoldable pub NoTest : List ℕ → ℕ → Bool → Type 0
+NoTest ws i b = b ≡ false → (j : ℕ) → i ≤ j → j < length ws → labelAt ws j .kind ≡ 19 → ⊥
 
 -- ---- the search in the rewritten elements
 
@@ -105,53 +119,171 @@ module _ (ws : List ℕ) (at : ℕ) where
 -- ---- what a mark says, by the kind
 
 module _ (ws : List ℕ) (at : ℕ) where
+  none-member : (k : ℕ) → labelAt ws at .kind ≡ k → (k ≡ 30 → ⊥) → (k ≡ 31 → ⊥) → (k ≡ 32 → ⊥) → isDecoratedMember (labelAt ws at) (kidsAt ws at) ≡ false
+  none-member k e a b c = member-other (labelAt ws at) (kidsAt ws at) (λ g. a (sym e ∙ g)) (λ g. b (sym e ∙ g)) (λ g. c (sym e ∙ g))
+
   pub marked-statement : labelAt ws at .kind ≡ 4 → isMarked ws at ≡ takesAlias ws at
   unfolding isMarked is
   marked-statement e =
-      let other : (labelAt ws at .kind ≡ 26 → ⊥) = λ g. omega (arith, e, g) in
-      let none : isDecoratedMember (labelAt ws at) (kidsAt ws at) ≡ false = member-other (labelAt ws at) (kidsAt ws at) (λ g. omega (arith, e, g)) (λ g. omega (arith, e, g)) (λ g. omega (arith, e, g)) in
-      rw (ne-eqb (labelAt ws at .kind) 26 other, none, or-false, or-false)
+      rw (ne-eqb (labelAt ws at .kind) 26 (λ g. omega (arith, e, g)), ne-eqb (labelAt ws at .kind) 29 (λ g. omega (arith, e, g)), none-member 4 e (λ g. omega arith) (λ g. omega arith) (λ g. omega arith), or-false, or-false, or-false)
 
   pub marked-class : labelAt ws at .kind ≡ 26 → isMarked ws at ≡ isDecorated (kidsAt ws at)
   unfolding isMarked is
   marked-class e =
-      let none : isDecoratedMember (labelAt ws at) (kidsAt ws at) ≡ false = member-other (labelAt ws at) (kidsAt ws at) (λ g. omega (arith, e, g)) (λ g. omega (arith, e, g)) (λ g. omega (arith, e, g)) in
-      rw (not-statement ws at (λ g. omega (arith, e, g)), eq-eqb (labelAt ws at .kind) 26 e, none, or-false)
+      rw (not-statement ws at (λ g. omega (arith, e, g)), eq-eqb (labelAt ws at .kind) 26 e, ne-eqb (labelAt ws at .kind) 29 (λ g. omega (arith, e, g)), none-member 26 e (λ g. omega arith) (λ g. omega arith) (λ g. omega arith), or-false, or-false)
 
-  pub marked-member : (labelAt ws at .kind ≡ 4 → ⊥) → (labelAt ws at .kind ≡ 26 → ⊥) → isMarked ws at ≡ isDecoratedMember (labelAt ws at) (kidsAt ws at)
+  pub marked-body : labelAt ws at .kind ≡ 29 → isMarked ws at ≡ anyRow isDecoratedMember (kidsAt ws at)
   unfolding isMarked is
-  marked-member n m = rw (not-statement ws at n, ne-eqb (labelAt ws at .kind) 26 m)
+  marked-body e =
+      rw (not-statement ws at (λ g. omega (arith, e, g)), ne-eqb (labelAt ws at .kind) 26 (λ g. omega (arith, e, g)), eq-eqb (labelAt ws at .kind) 29 e, none-member 29 e (λ g. omega arith) (λ g. omega arith) (λ g. omega arith), or-false)
 
--- ---- the loop over the places
+  pub marked-member : (labelAt ws at .kind ≡ 4 → ⊥) → (labelAt ws at .kind ≡ 26 → ⊥) → (labelAt ws at .kind ≡ 29 → ⊥) → isMarked ws at ≡ isDecoratedMember (labelAt ws at) (kidsAt ws at)
+  unfolding isMarked is
+  marked-member n m b = rw (not-statement ws at n, ne-eqb (labelAt ws at .kind) 26 m, ne-eqb (labelAt ws at .kind) 29 b)
 
--- the entries of the places below i, in a table of m entries
-pub record Done (ws notes : List ℕ) (m i : ℕ) : Type 0 where
+  -- with what a 40 says
+  pub marked-other : (x : Bool) → (labelAt ws at .kind ≡ 40 → ⊥) → (isMarked ws at || (is 40 (labelAt ws at) && x)) ≡ isMarked ws at
+  unfolding is
+  marked-other x n = rw (ne-eqb (labelAt ws at .kind) 40 n, or-false)
+
+  pub marked-symbols : (x : Bool) → labelAt ws at .kind ≡ 40 → (isMarked ws at || (is 40 (labelAt ws at) && x)) ≡ x
+  unfolding is
+  marked-symbols x e =
+      let none : isMarked ws at ≡ false = marked-member (λ g. omega (arith, e, g)) (λ g. omega (arith, e, g)) (λ g. omega (arith, e, g)) ∙ none-member 40 e (λ g. omega arith) (λ g. omega arith) (λ g. omega arith) in
+      rw (none, eq-eqb (labelAt ws at .kind) 40 e)
+
+-- ---- private-in tests
+
+module _ (ws : List ℕ) (i : ℕ) where
+  pub test-none : NoTest ws (length ws) false
+  unfolding NoTest
+  test-none e j l h g = omega (arith, l, h)
+
+  pub test-here : NoTest ws i true
+  unfolding NoTest
+  test-here e = absurd (true≢false e)
+
+  pub test-next : (b : Bool) → NoTest ws (i + 1) b → (labelAt ws i .kind ≡ 19 → ⊥) → NoTest ws i b
+  unfolding NoTest
+  test-next b t n e j l h g = go (eqb j i) refl
+    where
+      go : (x : Bool) → eqb j i ≡ x → ⊥
+      go true s = n (ap (λ (p : ℕ). labelAt ws p .kind) (sym (eqb-true j i s)) ∙ g)
+      go false s = let z : j ≡ i → ⊥ = eqb-false j i s in t e j (omega (arith, l, z)) h g
+
+-- ---- the loop over the places, from the last to the first
+
+-- the entries of the places from i on, in a table of m entries
+pub record Done (ws notes : List ℕ) (m i : ℕ) (test : Bool) : Type 0 where
   pub long : length notes ≡ m
+  pub low : i ≤ length ws
   pub ends : Ends ws notes 0
-  pub right : (j : ℕ) → j < i → markIn (getD notes j 0) ≡ isMarked ws j
+  pub right : (j : ℕ) → i ≤ j → j < length ws → (labelAt ws j .kind ≡ 40 → ⊥) → markIn (getD notes j 0) ≡ isMarked ws j
+  pub tests : (j : ℕ) → i ≤ j → j < length ws → labelAt ws j .kind ≡ 40 → NoTest ws j (markIn (getD notes j 0))
+  pub seen : NoTest ws i test
 
-pub done-start : {ws notes : List ℕ} → Ends ws notes 0 → Done ws notes (length notes) 0
-done-start e = record { long = refl; ends = e; right = λ j h. absurd (omega arith) }
+pub done-start : {ws notes : List ℕ} → Ends ws notes 0 → Done ws notes (length notes) (length ws) false
+done-start {ws} e = record {
+  long = refl;
+  low = omega arith;
+  ends = e;
+  right = λ j l h. absurd (omega (arith, l, h));
+  tests = λ j l h. absurd (omega (arith, l, h));
+  seen = test-none ws 0;
+}
 
-pub done-next : {ws notes : List ℕ} {m i : ℕ} (v : ℕ) → Done ws notes m i → i < length ws → v / 65536 ≡ getD notes i 0 / 65536 → markIn v ≡ isMarked ws i → Done ws (set notes i v) m (i + 1)
-done-next {ws} {notes} {m} {i} v d w p e = record { long = length-set notes i v ∙ d .long; ends = ends-set v (d .ends) λ l. p ∙ d .ends .right i (omega arith) l; right = λ j l. go j l (eqb j i) refl }
+-- one place back
+pub done-down : {ws notes : List ℕ} {m i : ℕ} {test : Bool} → Done ws notes m i test → (i ≡ 0 → ⊥) → Done ws notes m (i - 1 + 1) test
+done-down {ws} {notes} {m} {i} {test} d h = let e : i ≡ i - 1 + 1 = omega (arith, h) in subst (λ (j : ℕ). Done ws notes m j test) e d
+
+pub done-class : {ws notes : List ℕ} {m i : ℕ} {test : Bool} → Done ws notes m i test → ClassMark ws notes i
+unfolding ClassMark
+done-class {ws} {notes} {m} {i} d h kind = d .right i (omega arith) h (λ g. omega (arith, kind, g)) ∙ marked-class ws i kind
+
+pub done-next : {ws notes : List ℕ} {m i : ℕ} {test : Bool} (v : ℕ) (b : Bool) → Done ws notes m (i + 1) test → NoTest ws i b → v / 65536 ≡ getD notes i 0 / 65536 →
+    markIn v ≡ (isMarked ws i || (is 40 (labelAt ws i) && b)) → Done ws (set notes i v) m i b
+done-next {ws} {notes} {m} {i} v b d t p e = record {
+  long = length-set notes i v ∙ d .long;
+  low = omega (arith, d .low);
+  ends = ends-set v (d .ends) λ l. p ∙ d .ends .right i (omega arith) l;
+  right = λ j l w n. go j l w n (eqb j i) refl;
+  tests = λ j l w k. forty j l w k (eqb j i) refl;
+  seen = t;
+}
   where
     h : i < length notes
-    h = omega (arith, w, d .ends .long)
+    h = omega (arith, d .low, d .ends .long)
 
-    go : (j : ℕ) → j < i + 1 → (x : Bool) → eqb j i ≡ x → markIn (getD (set notes i v) j 0) ≡ isMarked ws j
-    go j l true s =
+    go : (j : ℕ) → i ≤ j → j < length ws → (labelAt ws j .kind ≡ 40 → ⊥) → (x : Bool) → eqb j i ≡ x → markIn (getD (set notes i v) j 0) ≡ isMarked ws j
+    go j l w n true s =
         let same : j ≡ i = eqb-true j i s in
-        rw (same, getD-set-same notes i v 0 h) e
-    go j l false s =
+        rw (same, getD-set-same notes i v 0 h) (e ∙ marked-other ws i b (λ g. n (ap (λ (q : ℕ). labelAt ws q .kind) same ∙ g)))
+    go j l w n false s =
         let other : j ≡ i → ⊥ = eqb-false j i s in
-        rw (getD-set-other notes i j v 0 other) (d .right j (omega arith))
+        rw (getD-set-other notes i j v 0 other) (d .right j (omega (arith, l, other)) w n)
 
-pub done-planned : {ws notes : List ℕ} {m i : ℕ} → Fits (module′ ∷ []) (recordsAt ws 0) → length ws ≤ i → Done ws notes m i → Planned ws notes
-done-planned {ws} {notes} {m} {i} whole all d = record {
+    forty : (j : ℕ) → i ≤ j → j < length ws → labelAt ws j .kind ≡ 40 → (x : Bool) → eqb j i ≡ x → NoTest ws j (markIn (getD (set notes i v) j 0))
+    forty j l w k true s =
+        let same : j ≡ i = eqb-true j i s in
+        let here : NoTest ws i (markIn (getD (set notes i v) i 0)) =
+        subst (NoTest ws i) (sym (ap (λ (x : ℕ). markIn x) (getD-set-same notes i v 0 h) ∙ e ∙ marked-symbols ws i b (ap (λ (q : ℕ). labelAt ws q .kind) (sym same) ∙ k))) t in
+        subst (λ (q : ℕ). NoTest ws q (markIn (getD (set notes i v) q 0))) (sym same) here
+    forty j l w k false s =
+        let other : j ≡ i → ⊥ = eqb-false j i s in
+        subst (λ (x : ℕ). NoTest ws j (markIn x)) (sym (getD-set-other notes i j v 0 other)) (d .tests j (omega (arith, l, other)) w k)
+
+-- ---- the module's word and its 40
+
+below-1 : (p : ℕ) → slotsBelow module′ 1 p ≡ symbols ∷ (replicate p ownStatement ++ [])
+unfolding slotsBelow slots rowOf table lookup row
+below-1 p = refl
+
+open-fits : (l : Label) (k r : Trees) → Fits (module′ ∷ []) (node l k r) → Allowed module′ l × Fits (slotsBelow module′ (l .kind) (l .payload)) k
+unfolding Fits
+open-fits l k r f = (f .0, f .1)
+
+none-fits : Fits (module′ ∷ []) end → ⊥
+unfolding Fits
+none-fits f = f
+
+module _ (ws : List ℕ) (whole : Fits (module′ ∷ []) (recordsAt ws 0)) where
+  start : (0 < length ws) × Allowed module′ (labelAt ws 0) × Fits (slotsBelow module′ (labelAt ws 0 .kind) (labelAt ws 0 .payload)) (kidsAt ws 0)
+  start = go (ltb 0 (length ws)) refl
+    where
+      go : (b : Bool) → ltb 0 (length ws) ≡ b → (0 < length ws) × Allowed module′ (labelAt ws 0) × Fits (slotsBelow module′ (labelAt ws 0 .kind) (labelAt ws 0 .payload)) (kidsAt ws 0)
+      go true e =
+          let h : 0 < length ws = ltb-true 0 (length ws) e in
+          let f = open-fits _ _ _ (subst (Fits (module′ ∷ [])) (records-node ws 0 h) whole) in
+          (h, f .0, f .1)
+      go false e = absurd (none-fits (subst (Fits (module′ ∷ [])) (records-past ws 0 (ltb-false 0 (length ws) e)) whole))
+
+  start-kind : labelAt ws 0 .kind ≡ 1
+  unfolding soleKind lookup
+  start-kind = allowed-sole module′ (labelAt ws 0) (start .1) tt
+
+  symbols-kind : (1 < length ws) × (labelAt ws 1 .kind ≡ 40)
+  unfolding soleKind lookup
+  symbols-kind =
+      let t : Standing ws 0 = record { slot = module′; own = start .1; kids = start .2 } in
+      let r = kind-row ws 0 1 t _ start-kind (below-1 (labelAt ws 0 .payload)) in
+      let f = row-first ws 1 _ symbols _ (r .1) in
+      (f .0, allowed-sole symbols (labelAt ws 1) (f .1) tt)
+
+pub done-planned : {ws notes : List ℕ} {m i : ℕ} {test : Bool} → Fits (module′ ∷ []) (recordsAt ws 0) → i ≡ 0 → Done ws notes m i test → Planned ws notes
+unfolding NoTest
+done-planned {ws} {notes} {m} {i} {test} whole z d = record {
   ends = d .ends;
   right = λ at n h kind live decorated below.
-      d .right at (omega arith) ∙ marked-statement ws at kind ∙ searched ws at kind live decorated ∙ sym (mentioned-same ws whole at h kind n (idOf (kidsAt ws (at + 1))) below);
-  classes = λ at h kind. d .right at (omega arith) ∙ marked-class ws at kind;
-  members = λ at h n m. d .right at (omega arith) ∙ marked-member ws at n m;
+      d .right at (omega (arith, z)) h (λ g. omega (arith, kind, g)) ∙ marked-statement ws at kind ∙ searched ws at kind live decorated ∙
+      sym (mentioned-same ws whole at h kind n (idOf (kidsAt ws (at + 1))) below);
+  classes = λ at h kind. d .right at (omega (arith, z)) h (λ g. omega (arith, kind, g)) ∙ marked-class ws at kind;
+  bodies = λ at h kind. d .right at (omega (arith, z)) h (λ g. omega (arith, kind, g)) ∙ marked-body ws at kind;
+  members = λ at h a b e f. d .right at (omega (arith, z)) h f ∙ marked-member ws at a b e;
+  tests = λ m at h kind. none m at h kind (eqb at 0) refl;
 }
+  where
+    none : markIn (getD notes 1 0) ≡ false → (at : ℕ) → at < length ws → labelAt ws at .kind ≡ 19 → (x : Bool) → eqb at 0 ≡ x → ⊥
+    none m at h kind true s = omega (arith, start-kind ws whole, sym (ap (λ (q : ℕ). labelAt ws q .kind) (eqb-true at 0 s)) ∙ kind)
+    none m at h kind false s =
+        let y : at ≡ 0 → ⊥ = eqb-false at 0 s in
+        d .tests 1 (omega (arith, z)) (symbols-kind ws whole .0) (symbols-kind ws whole .1) m at (omega (arith, y)) h kind

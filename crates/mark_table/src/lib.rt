@@ -1,25 +1,43 @@
-// Which classes take an alias or are decorated (rule 6), and which members are decorated (rule 3): a flat loop over the places of an accepted module's words.
+// The notes' marks: which classes take an alias or are decorated (rule 6), which members are decorated (rule 3), whether there are private-in tests
+// (rule 9); a flat loop over the places of an accepted module's words, from the last to the first. And refusal 7, by the marks.
 use inspect::NONE;
 ghost use mathlib.Core.Path.{_≡_};
+ghost use mathlib.Core.Bool.{_&&_, _||_};
 ghost use mathlib.Core.List.{[], _∷_};
-ghost use Prim.Native.Nat.{_/_, _<_};
-ghost use lib.ListN.{length};
+ghost use Prim.Native.Nat.{_+_, _/_, _<_};
+ghost use lib.ListN.{length, getD};
+ghost use Rattle.records.specs.Label.{is};
 ghost use Rattle.records.specs.Ends.{Ends};
-ghost use Rattle.records.specs.Place.{recordsAt, labelAt};
+ghost use Rattle.records.specs.Place.{recordsAt, labelAt, kidsAt};
 ghost use Rattle.grammar.specs.Grammar.{module′};
 ghost use Rattle.grammar.specs.WellFormed.{Fits};
+ghost use Rattle.rewriting.specs.Parts.{anyRecord, isDecorated, isRefused7};
 ghost use Rattle.counter.specs.Contract.{markIn, Planned};
-ghost use Rattle.mark_table.specs.Marks.{takesAlias, isMarked};
+ghost use Rattle.mark_table.specs.Marks.{takesAlias, isMarked, ClassMark, NoTest};
 
-// Notes in the lowest bit of each place whether a class statement whose class takes an alias, a decorated class or a decorated member stands there; the
-// ends as they were.
+// Notes in the lowest bit of each place the mark of the record there; the ends as they were.
 pub fn find_marks(ws: &[u32], notes: &mut [u32])
     requires { ⌜ Ends (now ws) (now notes) 0 × Fits (module′ ∷ []) (recordsAt (now ws) 0) ⌝ }
     ensures { λ r. ⌜ Planned (now (ws .entry)) (now (notes .exit)) × (length (now (notes .exit)) ≡ length (now (notes .entry))) ⌝ }
 {
-    for i in 0..ws.len() {
-        notes[i] = with_mark(notes[i], is_marked(ws, notes, i));
+    let mut i = ws.len();
+    let mut test = false;
+    while i != 0 {
+        i -= 1;
+        test = any_test(ws, i, test);
+        notes[i] = with_mark(notes[i], is_marked(ws, notes, i, test));
     }
+}
+
+// Is there a private-in test at i or behind it, where `test` says whether one stands behind it?
+fn any_test(ws: &[u32], i: usize, test: bool) -> bool
+    requires { ⌜ NoTest (now ws) (i + 1) test ⌝ }
+    ensures { λ r. ⌜ NoTest (now (ws .entry)) i r ⌝ }
+{
+    if inspect::kind_at(ws, i) == 19 {
+        return true;
+    }
+    test
 }
 
 // The end that the note w says, with the mark's bit.
@@ -33,30 +51,33 @@ fn with_mark(w: u32, mark: bool) -> u32
     e
 }
 
-fn is_marked(ws: &[u32], notes: &[u32], i: usize) -> bool
-    requires { do ⌜ (i < (← ⟦ws.len()⟧)) × Ends (now ws) (now notes) 0 ⌝ }
-    ensures { λ r. ⌜ r ≡ isMarked (now (ws .entry)) i ⌝ }
+// The mark of the record at i, where that of a class right behind it is known; test: is there a private-in test?
+fn is_marked(ws: &[u32], notes: &[u32], i: usize, test: bool) -> bool
+    requires { ⌜ (i < length (now ws)) × Ends (now ws) (now notes) 0 × Fits (module′ ∷ []) (recordsAt (now ws) 0) × ClassMark (now ws) (now notes) (i + 1) ⌝ }
+    ensures { λ r. ⌜ r ≡ (isMarked (now (ws .entry)) i || (is 40 (labelAt (now (ws .entry)) i) && test)) ⌝ }
 {
     let k = inspect::kind_at(ws, i);
     match k {
         4 => takes_alias(ws, notes, i),
         26 => inspect::check_class_has_decorated(ws, notes, i),
+        29 => inspect::any_member_decorated(ws, notes, i + 1, inspect::children_at(ws, i)),
         30 => inspect::member_decorated(ws, notes, i),
         31 => inspect::member_decorated(ws, notes, i),
         32 => inspect::member_decorated(ws, notes, i),
+        40 => test,
         _ => false,
     }
 }
 
 // Does the class of the statement at i take an alias?
 fn takes_alias(ws: &[u32], notes: &[u32], i: usize) -> bool
-    requires { do ⌜ (i < (← ⟦ws.len()⟧)) × Ends (now ws) (now notes) 0 × (labelAt (now ws) i .kind ≡ 4) ⌝ }
+    requires { ⌜ (i < length (now ws)) × Ends (now ws) (now notes) 0 × Fits (module′ ∷ []) (recordsAt (now ws) 0) × ClassMark (now ws) (now notes) (i + 1) × (labelAt (now ws) i .kind ≡ 4) ⌝ }
     ensures { λ r. ⌜ r ≡ takesAlias (now (ws .entry)) i ⌝ }
 {
     if !inspect::is_live(ws, i + 1) {
         return false;
     }
-    if !inspect::check_class_has_decorated(ws, notes, i + 1) {
+    if notes[i + 1] % 2 != 1 {
         return false;
     }
     let c = inspect::class_id(ws, notes, i + 1);
@@ -64,4 +85,38 @@ fn takes_alias(ws: &[u32], notes: &[u32], i: usize) -> bool
         return false;
     }
     alias_search::mentions_in_body(ws, notes, i + 1, c)
+}
+
+// ---- refusal 7
+
+// Of any record of the words.
+pub fn refused_7(ws: &[u32], notes: &[u32]) -> bool
+    requires { ⌜ Planned (now ws) (now notes) × Fits (module′ ∷ []) (recordsAt (now ws) 0) ⌝ }
+    ensures { λ r. ⌜ r ≡ anyRecord isRefused7 (recordsAt (now (ws .entry)) 0) ⌝ }
+{
+    let mut i = 0;
+    while i < ws.len() {
+        if is_refused_7(ws, notes, i) {
+            return true;
+        }
+        i += 1;
+    }
+    false
+}
+
+// Of the record at `at`: a decorated class that has no decorators has a constructor, so that no test asks for one.
+fn is_refused_7(ws: &[u32], notes: &[u32], at: usize) -> bool
+    requires { ⌜ Planned (now ws) (now notes) × Fits (module′ ∷ []) (recordsAt (now ws) 0) × (at < length (now ws)) ⌝ }
+    ensures { λ r. ⌜ r ≡ isRefused7 (labelAt (now (ws .entry)) at) (kidsAt (now (ws .entry)) at) ⌝ }
+{
+    if inspect::kind_at(ws, at) != 4 {
+        return false;
+    }
+    if !inspect::is_live(ws, at + 1) {
+        return false;
+    }
+    if notes[at + 1] % 2 != 1 {
+        return false;
+    }
+    !inspect::class_decorated_first(ws, notes, at + 1)
 }

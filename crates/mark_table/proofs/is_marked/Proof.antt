@@ -1,9 +1,10 @@
 -- `is_marked`: by the kind.
-use mathlib.Core.Path.{sym, _∙_}
-use native.Mathlib.Omega.{arith}
-use borrow.Author.Needs.{needs}
+use Rattle.mark_table.specs.Marks.{marked-statement, marked-class, marked-body, marked-member, marked-other, marked-symbols}
 use Rattle.inspect.specs.Class.{member-other}
-use Rattle.mark_table.specs.Marks.{marked-statement, marked-class, marked-member}
+use Rattle.records.specs.Place.{kidsAt}
+use native.Mathlib.Omega.{arith}
+use mathlib.Core.Path.{sym, _∙_}
+use borrow.Author.Needs.{needs}
 use Rattle.mark_table.proofs.is_marked.Statement.{statement}
 use Rattle.mark_table.proofs.is_marked.Tie as tie
 
@@ -11,10 +12,19 @@ kind-at-requires : tie.Need-kind-at-requires
 kind-at-requires c κs = search needs
 
 takes-alias-requires : tie.Need-takes-alias-requires
-takes-alias-requires c κs = (c .before .before .before .before .pre .0, c .before .before .before .before .pre .1, sym (c .before .kind-at .ensures) ∙ c .match .keys1)
+takes-alias-requires c κs = (c .before .before .before .before .pre .0, c .before .before .before .before .pre .1, c .before .before .before .before .pre .2, c .before .before .before .before .pre .3, sym (c .before .kind-at .ensures) ∙ c .match .keys1)
 
 check-class-has-decorated-requires : tie.Need-check-class-has-decorated-requires
 check-class-has-decorated-requires c κs = c .before .before .before .before .pre .1
+
+add-any-member-decorated : tie.Need-add-any-member-decorated
+add-any-member-decorated c = search needs
+
+children-at-requires : tie.Need-children-at-requires
+children-at-requires c κs = search needs
+
+any-member-decorated-requires : tie.Need-any-member-decorated-requires
+any-member-decorated-requires c κs = c .before .before .before .before .before .pre .1
 
 member-decorated-requires : tie.Need-member-decorated-requires
 member-decorated-requires c κs = c .before .before .before .before .pre .1
@@ -26,31 +36,44 @@ member-decorated-requires-3 : tie.Need-member-decorated-requires-3
 member-decorated-requires-3 c κs = c .before .before .before .before .pre .1
 
 returns : tie.Need-returns
-returns c = c .takes-alias .ensures ∙ sym (marked-statement (c .before .before .before .before .before .args .ws .now) (c .before .before .before .before .before .args .i) (sym (c .before .before .kind-at .ensures) ∙ c .before .match .keys1))
+returns c =
+    let k = sym (c .before .before .kind-at .ensures) ∙ c .before .match .keys1 in
+    c .takes-alias .ensures ∙ sym (marked-other (c .before .before .before .before .before .args .ws .now) (c .before .before .before .before .before .args .i) (c .before .before .before .before .before .args .test) (λ e. omega (arith, k, e)) ∙ marked-statement (c .before .before .before .before .before .args .ws .now) (c .before .before .before .before .before .args .i) k)
 
 returns-2 : tie.Need-returns-2
-returns-2 c = c .check-class-has-decorated .ensures ∙ sym (marked-class (c .before .before .before .before .before .args .ws .now) (c .before .before .before .before .before .args .i) (sym (c .before .before .kind-at .ensures) ∙ c .before .match .keys2))
+returns-2 c =
+    let k = sym (c .before .before .kind-at .ensures) ∙ c .before .match .keys2 in
+    c .check-class-has-decorated .ensures ∙ sym (marked-other (c .before .before .before .before .before .args .ws .now) (c .before .before .before .before .before .args .i) (c .before .before .before .before .before .args .test) (λ e. omega (arith, k, e)) ∙ marked-class (c .before .before .before .before .before .args .ws .now) (c .before .before .before .before .before .args .i) k)
 
 returns-3 : tie.Need-returns-3
+unfolding kidsAt
 returns-3 c =
-    let k = sym (c .before .before .kind-at .ensures) ∙ c .before .match .keys3 in
-    c .member-decorated .ensures ∙ sym (marked-member (c .before .before .before .before .before .args .ws .now) (c .before .before .before .before .before .args .i) (λ e. omega (arith, k, e)) (λ e. omega (arith, k, e)))
+    let k = sym (c .before .before .before .kind-at .ensures) ∙ c .before .before .match .keys3 in
+    rw (c .before .children-at .ensures .0) at (c .any-member-decorated .ensures) ∙ sym (marked-other (c .before .before .before .before .before .before .args .ws .now) (c .before .before .before .before .before .before .args .i) (c .before .before .before .before .before .before .args .test) (λ e. omega (arith, k, e)) ∙ marked-body (c .before .before .before .before .before .before .args .ws .now) (c .before .before .before .before .before .before .args .i) k)
 
 returns-4 : tie.Need-returns-4
 returns-4 c =
     let k = sym (c .before .before .kind-at .ensures) ∙ c .before .match .keys4 in
-    c .member-decorated2 .ensures ∙ sym (marked-member (c .before .before .before .before .before .args .ws .now) (c .before .before .before .before .before .args .i) (λ e. omega (arith, k, e)) (λ e. omega (arith, k, e)))
+    c .member-decorated .ensures ∙ sym (marked-other (c .before .before .before .before .before .args .ws .now) (c .before .before .before .before .before .args .i) (c .before .before .before .before .before .args .test) (λ e. omega (arith, k, e)) ∙ marked-member (c .before .before .before .before .before .args .ws .now) (c .before .before .before .before .before .args .i) (λ e. omega (arith, k, e)) (λ e. omega (arith, k, e)) (λ e. omega (arith, k, e)))
 
 returns-5 : tie.Need-returns-5
 returns-5 c =
     let k = sym (c .before .before .kind-at .ensures) ∙ c .before .match .keys5 in
-    c .member-decorated3 .ensures ∙ sym (marked-member (c .before .before .before .before .before .args .ws .now) (c .before .before .before .before .before .args .i) (λ e. omega (arith, k, e)) (λ e. omega (arith, k, e)))
+    c .member-decorated2 .ensures ∙ sym (marked-other (c .before .before .before .before .before .args .ws .now) (c .before .before .before .before .before .args .i) (c .before .before .before .before .before .args .test) (λ e. omega (arith, k, e)) ∙ marked-member (c .before .before .before .before .before .args .ws .now) (c .before .before .before .before .before .args .i) (λ e. omega (arith, k, e)) (λ e. omega (arith, k, e)) (λ e. omega (arith, k, e)))
 
 returns-6 : tie.Need-returns-6
 returns-6 c =
+    let k = sym (c .before .before .kind-at .ensures) ∙ c .before .match .keys6 in
+    c .member-decorated3 .ensures ∙ sym (marked-other (c .before .before .before .before .before .args .ws .now) (c .before .before .before .before .before .args .i) (c .before .before .before .before .before .args .test) (λ e. omega (arith, k, e)) ∙ marked-member (c .before .before .before .before .before .args .ws .now) (c .before .before .before .before .before .args .i) (λ e. omega (arith, k, e)) (λ e. omega (arith, k, e)) (λ e. omega (arith, k, e)))
+
+returns-7 : tie.Need-returns-7
+returns-7 c = sym (marked-symbols (c .before .before .before .before .args .ws .now) (c .before .before .before .before .args .i) (c .before .before .before .before .args .test) (sym (c .before .kind-at .ensures) ∙ c .match .keys7))
+
+returns-8 : tie.Need-returns-8
+returns-8 c =
     let k = c .before .kind-at .ensures in
     let m = c .match .rest in
-    sym (marked-member (c .before .before .before .before .args .ws .now) (c .before .before .before .before .args .i) (λ e. m .0 .0 .0 .0 .1 (k ∙ e)) (λ e. m .0 .0 .0 .1 (k ∙ e)) ∙ member-other _ _ (λ e. m .0 .0 .1 (k ∙ e)) (λ e. m .0 .1 (k ∙ e)) (λ e. m .1 (k ∙ e)))
+    sym (marked-other (c .before .before .before .before .args .ws .now) (c .before .before .before .before .args .i) (c .before .before .before .before .args .test) (λ e. m .1 (k ∙ e)) ∙ marked-member (c .before .before .before .before .args .ws .now) (c .before .before .before .before .args .i) (λ e. m .0 .0 .0 .0 .0 .0 .1 (k ∙ e)) (λ e. m .0 .0 .0 .0 .0 .1 (k ∙ e)) (λ e. m .0 .0 .0 .0 .1 (k ∙ e)) ∙ member-other _ _ (λ e. m .0 .0 .0 .1 (k ∙ e)) (λ e. m .0 .0 .1 (k ∙ e)) (λ e. m .0 .1 (k ∙ e)))
 
 pub is-marked-spec : {M : Type 1} → statement M
 is-marked-spec =
@@ -59,6 +82,9 @@ is-marked-spec =
     kind-at-requires
     takes-alias-requires
     check-class-has-decorated-requires
+    add-any-member-decorated
+    children-at-requires
+    any-member-decorated-requires
     member-decorated-requires
     member-decorated-requires-2
     member-decorated-requires-3
@@ -67,4 +93,6 @@ is-marked-spec =
     returns-3
     returns-4
     returns-5
-    returns-6)
+    returns-6
+    returns-7
+    returns-8)

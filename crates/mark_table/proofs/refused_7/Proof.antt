@@ -7,9 +7,9 @@ use lib.ListN.{length}
 use borrow.Author.Needs.{needs}
 use Rattle.records.specs.Place.{kidsAt, labelAt, recordsAt}
 use Rattle.rewriting.specs.Parts.{anyRecord, isRefused7}
 use Rattle.inspect.specs.Inside.{record-open, record-past}
-use Rattle.inspect.proofs.refused_7.Statement.{statement}
-use Rattle.inspect.proofs.refused_7.Tie as tie
+use Rattle.mark_table.proofs.refused_7.Statement.{statement}
+use Rattle.mark_table.proofs.refused_7.Tie as tie
 
 abbrev Inv-loop : tie.InvT-loop
 Inv-loop ws notes i₀ i = (i ≤ length ws) × (anyRecord isRefused7 (recordsAt ws 0) ≡ anyRecord isRefused7 (recordsAt ws i))
@@ -21,7 +21,7 @@ loop-holds : tie.Need-loop-holds Inv-loop μ-loop
 loop-holds c = (omega arith, refl)
 
 is-refused-7-requires : tie.Need-is-refused-7-requires Inv-loop μ-loop
-is-refused-7-requires c κs = search needs
+is-refused-7-requires c κs = (c .before .before .before .before .pre .0, c .before .before .before .before .pre .1, c .loop-test .taken)
 
 returns : tie.Need-returns Inv-loop μ-loop
 returns c =
