@@ -4,27 +4,28 @@ use mathlib.Core.Bool.{Bool, true, false, _&&_, cond, true≢false, or-false}
 use mathlib.Core.Logic.{_⊎_, inl, inr}
 use mathlib.Core.Option.{Option, none, some}
 use mathlib.Core.List.{List}
-use Prim.Native.Nat.{ℕ, zero, suc, _+_, _-_, _*_, _%_, _<_, _≤_}
+use Prim.Native.Nat.{ℕ, _+_, _-_, _*_, _/_, _%_, _<_, _≤_}
 use native.Mathlib.Omega.{arith}
-use lib.Dec.{eqb, leb}
+use lib.Dec.{eqb}
 use lib.ListN.{length, getD, set, length-set}
 use lib.Seq.{getD-set-same, getD-set-other}
-use borrow.Author.Tests.{eqb-true, eqb-false, eq-eqb, ne-eqb, leb-true, le-leb}
-use Rattle.records.specs.Forest.{takeF, anyF}
+use borrow.Author.Tests.{eqb-true, eqb-false, eq-eqb, ne-eqb}
+use Rattle.records.specs.Forest.{takeF}
 use Rattle.words.specs.Table.{lookup}
 use Rattle.words.specs.Word.{children, childTable}
 use Rattle.records.specs.Label.{is, arity}
 use Rattle.records.specs.Ends.{ends-set}
 use Rattle.records.specs.Place.{recordsAt, labelAt, arityAt, kidsAt, endOf, end-one, end-low, end-high}
-use Rattle.rewriting.specs.Parts.{idOf, isDecorated, isLive}
-use Rattle.inspect.specs.Inside.{anyWord, any-words}
+use Rattle.rewriting.specs.Parts.{anyRecord, idOf, isDecorated, isDecoratedMember, isLive}
+use Rattle.inspect.specs.Inside.{none-records}
+use Rattle.inspect.specs.Class.{member-other}
 use Rattle.inspect.specs.Child.{optOf, opt-some, opt-none}
-use Rattle.walk_laws.specs.Still.{changes, changesKind}
+use Rattle.walk_laws.specs.Still.{changes, still-after}
 use Rattle.walk_laws.specs.After.{classAfter}
 use Rattle.walk_laws.specs.Kinds.{isElementKind, class-one, class-kind}
-use Rattle.counter.specs.Contract.{Below, stateOf, markIn, Planned, Ready, Counts, Free, Noted, Annotated, Walks, hasDefault, defaultFrom, Near, Totals, classCount}
+use Rattle.counter.specs.Contract.{Below, aroundOf, stateOf, markIn, Planned, Ready, Counts, Free, Noted, Annotated, Walks, hasDefault, defaultFrom, Near, Totals, classCount}
 use Rattle.counter.specs.Steps.{ready-next, count-other, count-dropped, count-expression, count-declared, count-live}
-use Rattle.counter.specs.Totals.{counts-same, from-none, has-none, Follows, follows, free-ready, free-next, class-symbols, note-alias, noted-by}
+use Rattle.counter.specs.Totals.{counts-same, from-none, has-none, Follows, follows, free-ready, free-next, class-symbols, kinds-apart, element-mark, note-alias, noted-by}
 use Rattle.counter.specs.declared.Scope.{Scope}
 use Rattle.counter.specs.declared.Total.{Total}
 
@@ -37,12 +38,9 @@ pub record Behind (ws notes : List ℕ) (at s : ℕ) : Type 0 where
 unfoldable pub isLiveClass : List ℕ → ℕ → Bool
 isLiveClass ws at = is 4 (labelAt ws at) && isLive (takeF 1 (recordsAt ws (at + 1)))
 
--- no word from i up to `next` may change
+-- no record from the place i up to `next` may change
 unfoldable pub Clear : List ℕ → ℕ → ℕ → Type 0
-Clear ws i next = (j : ℕ) → i ≤ j → j < next → changes (labelAt ws j) ≡ false
-
-unfoldable pub stillBit : ℕ → ℕ → ℕ
-stillBit e next = cond (leb e next) 1 0
+Clear ws i next = (j : ℕ) → i ≤ j → j < next → changes (labelAt ws j) (kidsAt ws j) ≡ false
 
 -- where the record at `at` ends, and how many symbols it takes where no class around is live
 pub record Leads (ws : List ℕ) (at : ℕ) (t : Total) : Type 0 where
@@ -168,53 +166,38 @@ module _ {ws notes : List ℕ} {at s : ℕ} (w : Behind ws notes at s) where
 
 -- ---- the note
 
-pub bit-small : (e next : ℕ) → stillBit e next ≤ 1
-unfolding stillBit
-bit-small e next = go (leb e next)
-  where
-    go : (b : Bool) → cond b 1 0 ≤ 1
-    go true = omega arith
-    go false = omega arith
+clear-of : (ws : List ℕ) (i next : ℕ) → Clear ws i next → (j : ℕ) → i ≤ j → j < next → changes (labelAt ws j) (kidsAt ws j) ≡ false
+unfolding Clear
+clear-of ws i next z j l h = z j l h
 
-pub bit-one : (e next : ℕ) → e ≤ next → 1 ≡ stillBit e next
-unfolding stillBit
-bit-one e next h = rw (le-leb e next h)
-
-pub bit-none : (e next : ℕ) → (e ≤ next → ⊥) → 0 ≡ stillBit e next
-unfolding stillBit
-bit-none e next h = go (leb e next) refl
-  where
-    go : (b : Bool) → leb e next ≡ b → _≡_ {A = ℕ} 0 (cond b 1 0)
-    go true g = absurd (h (leb-true e next g))
-    go false g = refl
-
-bit-le : (e next : ℕ) → stillBit e next ≡ 1 → e ≤ next
-unfolding stillBit
-bit-le e next h = go (leb e next) refl h
-  where
-    go : (b : Bool) → leb e next ≡ b → _≡_ {A = ℕ} (cond b 1 0) 1 → e ≤ next
-    go true g z = leb-true e next g
-    go false g z = absurd (omega arith)
-
-clear-any : (ws : List ℕ) (i next n : ℕ) → Clear ws i next → i + n ≤ next → anyWord changes ws i n ≡ false
-unfolding Clear anyWord
-clear-any ws i next zero c h = refl
-clear-any ws i next (suc n) c h = rw (c i (omega arith) (omega arith)) (clear-any ws (i + 1) next n (λ j l. c j (omega arith)) (omega arith))
-
-pub leads-noted : {ws : List ℕ} {at : ℕ} {t : Total} (next v r : ℕ) → Leads ws at t → Clear ws at next → r ≡ 65536 * t .at + 4 * t .count + 2 * stillBit (t .at) next + v % 2 →
-    Noted ws at r × (markIn r ≡ markIn v)
-leads-noted {ws} {at} {t} next v r h z e =
+pub leads-noted : {ws : List ℕ} {at : ℕ} {t : Total} (v r : ℕ) → Leads ws at t → r ≡ 65536 * t .at + 4 * t .count + 2 * 0 + v % 2 → Noted ws at r × (markIn r ≡ markIn v)
+leads-noted {ws} {at} {t} v r h e =
     let c : t .count < 16384 = omega (arith, h .few .1) in
-    let q : stillBit (t .at) next < 2 = omega (arith, bit-small (t .at) next) in
     let a : v % 2 < 2 = omega arith in (
-      subst (Noted ws at) (sym e) (noted-by ws at (t .at) (t .count) (stillBit (t .at) next) (v % 2) c q a (h .place) still (h .count)),
-      ap (λ (x : ℕ). eqb x 1) (ap (λ (x : ℕ). x % 2) e ∙ note-alias (t .at) (t .count) (stillBit (t .at) next) (v % 2) c q a),
+      subst (Noted ws at) (sym e) (noted-by ws at (t .at) (t .count) 0 (v % 2) c (omega arith) a (h .place) (λ z. absurd (omega arith)) (h .count)),
+      ap (λ (x : ℕ). eqb x 1) (ap (λ (x : ℕ). x % 2) e ∙ note-alias (t .at) (t .count) 0 (v % 2) c (omega arith) a),
+    )
+
+-- a record in which nothing changes
+pub still-noted : {ws notes : List ℕ} {at s : ℕ} (next v r : ℕ) → Behind ws notes at s → Clear ws at next → v ≡ getD notes at 0 → v / 65536 ≤ next →
+    r ≡ 65536 * (v / 65536) + 4 * 0 + 2 * 1 + v % 2 → Noted ws at r × (markIn r ≡ markIn v)
+still-noted {ws} {notes} {at} {s} next v r b z g h e =
+    let a : v % 2 < 2 = omega arith in (
+      subst (Noted ws at) (sym e) (noted-by ws at (v / 65536) 0 1 (v % 2) (omega arith) (omega arith) a place (λ q. still) counts),
+      ap (λ (x : ℕ). eqb x 1) (ap (λ (x : ℕ). x % 2) e ∙ note-alias (v / 65536) 0 1 (v % 2) (omega arith) (omega arith) a),
     )
   where
-    still : stillBit (t .at) next ≡ 1 → anyF changes (takeF 1 (recordsAt ws at)) ≡ false
-    still b =
-        any-words ws changes at 1
-        ∙ clear-any ws at next (endOf ws at 1 - at) z (omega (arith, bit-le (t .at) next b, h .place, end-low ws at 1))
+    place : v / 65536 ≡ endOf ws at 1
+    place = ap (λ (x : ℕ). x / 65536) g ∙ b .ready .planned .ends .right at (omega arith) (b .inside)
+
+    still : anyRecord changes (takeF 1 (recordsAt ws at)) ≡ false
+    still = none-records changes ws at 1 λ j l m. clear-of ws at next z j l (omega (arith, m, place, h))
+
+    counts : (c : Scope) (n d : ℕ) → c .live ≡ false → Free ws at n → Counts ws at 1 c n d (record { at = v / 65536; next = n + 0; default = d })
+    counts c n d l f = record {
+      place = place;
+      state = still-after ws (b .ready .whole) at (b .inside) still (aroundOf c) (stateOf n d) ∙ ap (λ (m : ℕ). stateOf m d) (let e : n ≡ n + 0 = omega arith in e);
+    }
 
 -- ---- the loop from the last place to the first
 
@@ -277,28 +260,42 @@ filled-next {ws} {notes} {m} {i} v k d z t e = record {
         let z : j ≡ i → ⊥ = eqb-false j i g in
         subst (Noted ws j) (sym (getD-set-other notes i j v 0 z)) (noted-of d j (omega arith) h)
 
--- ---- the words that may change
+-- ---- the records that may change
 
 module _ (ws : List ℕ) (i next : ℕ) where
   pub clear-here : Clear ws i i
   unfolding Clear
   clear-here j l h = absurd (omega (arith, l, h))
 
-  pub clear-next : Clear ws (i + 1) next → changes (labelAt ws i) ≡ false → Clear ws i next
+  pub clear-next : Clear ws (i + 1) next → changes (labelAt ws i) (kidsAt ws i) ≡ false → Clear ws i next
   unfolding Clear
   clear-next c e j l h = go (eqb j i) refl
     where
-      go : (b : Bool) → eqb j i ≡ b → changes (labelAt ws j) ≡ false
-      go true g = ap (λ (k : ℕ). changes (labelAt ws k)) (eqb-true j i g) ∙ e
+      go : (b : Bool) → eqb j i ≡ b → changes (labelAt ws j) (kidsAt ws j) ≡ false
+      go true g = ap (λ (k : ℕ). changes (labelAt ws k) (kidsAt ws k)) (eqb-true j i g) ∙ e
       go false g = let z : j ≡ i → ⊥ = eqb-false j i g in c j (omega (arith, l, z)) h
 
-pub changes-at : (ws : List ℕ) (i k : ℕ) (b : Bool) → k ≡ labelAt ws i .kind → b ≡ changesKind k → changes (labelAt ws i) ≡ b
-unfolding changes
-changes-at ws i k b e h = sym (h ∙ ap changesKind e)
+-- a record without a mark that is no module stays as it is
+module _ {ws notes : List ℕ} (p : Planned ws notes) (i : ℕ) (h : i < length ws) (m : markIn (getD notes i 0) ≡ false) where
+  no-class : (is 26 (labelAt ws i) && isDecorated (kidsAt ws i)) ≡ false
+  unfolding is
+  no-class = go (eqb (labelAt ws i .kind) 26) refl
+    where
+      go : (b : Bool) → eqb (labelAt ws i .kind) 26 ≡ b → (b && isDecorated (kidsAt ws i)) ≡ false
+      go true e = sym (p .classes i h (eqb-true _ 26 e)) ∙ m
+      go false e = refl
 
-pub changes-one : (k j : ℕ) → k ≡ j → changesKind j ≡ true → true ≡ changesKind k
-changes-one k j e t = sym (ap changesKind e ∙ t)
+  no-member : isDecoratedMember (labelAt ws i) (kidsAt ws i) ≡ false
+  unfolding isElementKind
+  no-member = go (isElementKind (labelAt ws i .kind)) refl
+    where
+      go : (b : Bool) → isElementKind (labelAt ws i .kind) ≡ b → isDecoratedMember (labelAt ws i) (kidsAt ws i) ≡ false
+      go true e = sym (element-mark i p h e) ∙ m
+      go false e = member-other (labelAt ws i) (kidsAt ws i) (no-kind 30 refl) (no-kind 31 refl) (no-kind 32 refl)
+        where
+          no-kind : (k : ℕ) → isElementKind k ≡ true → labelAt ws i .kind ≡ k → ⊥
+          no-kind k t g = kinds-apart isElementKind k (labelAt ws i .kind) t e (sym g)
 
-pub changes-none : (k : ℕ) → (k ≡ 1 → ⊥) → (k ≡ 4 → ⊥) → (k ≡ 20 → ⊥) → (k ≡ 30 → ⊥) → (k ≡ 31 → ⊥) → (k ≡ 32 → ⊥) → false ≡ changesKind k
-unfolding changesKind lookup
-changes-none k a b c d e f = rw (ne-eqb k 1 a, ne-eqb k 4 b, ne-eqb k 20 c, ne-eqb k 30 d, ne-eqb k 31 e, ne-eqb k 32 f)
+  pub unmarked : (labelAt ws i .kind ≡ 1 → ⊥) → changes (labelAt ws i) (kidsAt ws i) ≡ false
+  unfolding changes is
+  unmarked n = rw (ne-eqb (labelAt ws i .kind) 1 n, no-class, no-member)

@@ -4,14 +4,13 @@ use counter::Total;
 use inspect::NONE;
 ghost use mathlib.Core.Path.{_≡_};
 ghost use mathlib.Core.Bool.{true, false};
-ghost use Prim.Native.Nat.{_+_, _*_, _%_, _<_, _≤_};
+ghost use Prim.Native.Nat.{_+_, _*_, _/_, _%_, _<_, _≤_};
 ghost use lib.ListN.{length, getD};
 ghost use Rattle.records.specs.Forest.{takeF};
 ghost use Rattle.records.specs.Place.{recordsAt, labelAt};
 ghost use Rattle.rewriting.specs.Parts.{isLive};
 ghost use Rattle.counter.specs.Contract.{markIn, Planned, Ready, Noted, Annotated};
-ghost use Rattle.count_table.specs.Note.{Behind, Leads, isLiveClass, Clear, stillBit};
-ghost use Rattle.walk_laws.specs.Still.{changesKind};
+ghost use Rattle.count_table.specs.Note.{Behind, Leads, isLiveClass, Clear};
 
 // The notes of all places of the words, their ends and aliases as they were. All ids are below s.
 pub fn find_counts(ws: &[u32], notes: &mut [u32], s: u32)
@@ -22,46 +21,38 @@ pub fn find_counts(ws: &[u32], notes: &mut [u32], s: u32)
     let mut next = ws.len();
     while i != 0 {
         i -= 1;
-        next = next_change(ws, i, next);
+        next = next_change(ws, notes, i, next);
         notes[i] = note(ws, notes, i, next, s);
     }
 }
 
-// The first place from i on with a word that may change, where `next` is the first behind i.
-fn next_change(ws: &[u32], i: usize, next: usize) -> usize
-    requires { ⌜ (i < length (now ws)) × Clear (now ws) (i + 1) next ⌝ }
+// The first place from i on with a record that may change, where `next` is the first behind i: a module, or one that is marked.
+fn next_change(ws: &[u32], notes: &[u32], i: usize, next: usize) -> usize
+    requires { ⌜ (i < length (now ws)) × Planned (now ws) (now notes) × Clear (now ws) (i + 1) next ⌝ }
     ensures { λ r. ⌜ Clear (now (ws .entry)) i r ⌝ }
 {
-    if changes(inspect::kind_at(ws, i)) {
+    if notes[i] % 2 == 1 {
+        return i;
+    }
+    if inspect::kind_at(ws, i) == 1 {
         return i;
     }
     next
 }
 
-// May a record of this kind change: is it a module, a class statement, a class expression or an element?
-fn changes(kind: u32) -> bool
-    ensures { λ r. ⌜ r ≡ changesKind kind ⌝ }
-{
-    match kind {
-        1 => true,
-        4 => true,
-        20 => true,
-        30 => true,
-        31 => true,
-        32 => true,
-        _ => false,
-    }
-}
-
-// The note of the record at `at`, where those of the places behind it are right; next: the first place from `at` on with a word that may change.
+// The note of the record at `at`, where those of the places behind it are right; next: the first place from `at` on with a record that may change.
 fn note(ws: &[u32], notes: &[u32], at: usize, next: usize, s: u32) -> u32
     requires { ⌜ Behind (now ws) (now notes) at s × Clear (now ws) at next ⌝ }
     ensures { λ r. ⌜ Noted (now (ws .entry)) at r × (markIn r ≡ markIn (getD (now (notes .entry)) at 0)) ⌝ }
 {
-    if is_live_class(ws, at) {
-        return note_of(live_total(ws, notes, at, s), next, notes[at]);
+    let w = notes[at];
+    if (w / 65536) as usize <= next {
+        return still_note(w);
     }
-    note_of(dead_total(ws, notes, at, s), next, notes[at])
+    if is_live_class(ws, at) {
+        return note_of(live_total(ws, notes, at, s), w);
+    }
+    note_of(dead_total(ws, notes, at, s), w)
 }
 
 // Is the record at `at` a class statement whose class is live?
@@ -97,20 +88,17 @@ fn dead_total(ws: &[u32], notes: &[u32], at: usize, s: u32) -> Total
     counter::total_noted(ws, notes, at + 1, inspect::children_at(ws, at))
 }
 
-// A note by its parts, the alias that of the note w; next: the first place with a word that may change.
-fn note_of(t: Total, next: usize, w: u32) -> u32
+// A note by its parts, the mark that of the note w.
+fn note_of(t: Total, w: u32) -> u32
     requires { ⌜ (t .at ≤ 4096) × (t .count ≤ 8194) ⌝ }
-    ensures { λ r. ⌜ r ≡ 65536 * t .at + 4 * t .count + 2 * stillBit (t .at) next + w % 2 ⌝ }
+    ensures { λ r. ⌜ r ≡ 65536 * t .at + 4 * t .count + 2 * 0 + w % 2 ⌝ }
 {
-    65536 * t.at as u32 + 4 * t.count + 2 * still_bit(t.at, next) + w % 2
+    65536 * t.at as u32 + 4 * t.count + w % 2
 }
 
-// 1 if a record that ends at e has no word that may change, of which the first is at `next`.
-fn still_bit(e: usize, next: usize) -> u32
-    ensures { λ r. ⌜ (r ≡ stillBit e next) × (r ≤ 1) ⌝ }
+// The note of a record in which nothing changes, and which so takes no symbol; its end and mark those of the note w.
+fn still_note(w: u32) -> u32
+    ensures { λ r. ⌜ r ≡ 65536 * (w / 65536) + 4 * 0 + 2 * 1 + w % 2 ⌝ }
 {
-    if e <= next {
-        return 1;
-    }
-    0
+    w / 65536 * 65536 + 2 + w % 2
 }

@@ -7,13 +7,13 @@ use mathlib.Core.List.{List, [], _∷_}
 use Prim.Native.Nat.{ℕ, _+_, _-_, _*_, _/_, _%_, _<_, _≤_}
 use lib.Dec.{eqb}
 use lib.ListN.{length, getD}
-use Rattle.records.specs.Forest.{takeF, anyF}
+use Rattle.records.specs.Forest.{takeF}
 use Rattle.records.specs.Label.{Trees}
 use Rattle.records.specs.Ends.{Ends}
 use Rattle.records.specs.Place.{recordsAt, labelAt, kidsAt, endOf}
 use Rattle.grammar.specs.Grammar.{module′}
 use Rattle.grammar.specs.WellFormed.{Fits}
-use Rattle.rewriting.specs.Parts.{elementsOf, idOf, isDecorated, isDecoratedMember, isLive, classKids}
+use Rattle.rewriting.specs.Parts.{anyRecord, elementsOf, idOf, isDecorated, isDecoratedMember, isLive, classKids}
 use Rattle.rewriting.specs.Visit.{Around, State}
 use Rattle.inspect.specs.Row.{anyRow}
 use Rattle.inspect.specs.Child.{optOf}
@@ -91,7 +91,7 @@ pub record Free (ws : List ℕ) (at n : ℕ) : Type 0 where
 -- the note w of the record at i says where it ends, how many fresh symbols it takes where no class around is live, and perhaps that nothing in it changes
 pub record Noted (ws : List ℕ) (i w : ℕ) : Type 0 where
   pub place : w / 65536 ≡ endOf ws i 1
-  pub still : stillIn w ≡ true → anyF changes (takeF 1 (recordsAt ws i)) ≡ false
+  pub still : stillIn w ≡ true → anyRecord changes (takeF 1 (recordsAt ws i)) ≡ false
   pub count : (a : Scope) (n d : ℕ) → a .live ≡ false → Free ws i n → Counts ws i 1 a n d (record { at = w / 65536; next = n + w / 4 % 16384; default = d })
 
 -- so do the notes of all places from `at` on

@@ -11,9 +11,9 @@ use native.Mathlib.Omega.{arith}
 use lib.Dec.{eqb}
 use lib.ListN.{length, getD}
 use borrow.Author.Tests.{eqb-true, eqb-false, eq-eqb, ne-eqb}
-use Rattle.records.specs.Forest.{takeF, anyF}
+use Rattle.records.specs.Forest.{takeF}
 use Rattle.records.specs.Place.{recordsAt, labelAt, arityAt, kidsAt, endOf, end-one, end-add, end-low, end-high}
-use Rattle.rewriting.specs.Parts.{idOf, isDecoratedMember, hasPlainKey}
+use Rattle.rewriting.specs.Parts.{anyRecord, idOf, isDecoratedMember, hasPlainKey}
 use Rattle.rewriting.specs.Visit.{State, Result, classSymbol, visit}
 use Rattle.inspect.specs.Child.{optOf, opt-is, opt-no}
 use Rattle.walk_laws.specs.Rows.{one-after, kids-visit}
@@ -426,7 +426,7 @@ module _ (p c q a : ℕ) (cl : c < 16384) (ql : q < 2) (al : a < 2) where
   note-alias = omega arith
 
 -- a note by its parts
-pub noted-by : (ws : List ℕ) (i p c q a : ℕ) → c < 16384 → q < 2 → a < 2 → p ≡ endOf ws i 1 → (q ≡ 1 → anyF changes (takeF 1 (recordsAt ws i)) ≡ false) →
+pub noted-by : (ws : List ℕ) (i p c q a : ℕ) → c < 16384 → q < 2 → a < 2 → p ≡ endOf ws i 1 → (q ≡ 1 → anyRecord changes (takeF 1 (recordsAt ws i)) ≡ false) →
     ((b : Scope) (n d : ℕ) → b .live ≡ false → Free ws i n → Counts ws i 1 b n d (record { at = p; next = n + c; default = d })) → Noted ws i (65536 * p + 4 * c + 2 * q + a)
 noted-by ws i p c q a cl ql al e t f = record {
   place = note-place p c q a cl ql al ∙ e;

@@ -101,3 +101,38 @@ record-open p ws i h =
 
 pub record-past : (p : Test) (ws : List ℕ) (i : ℕ) → length ws ≤ i → anyRecord p (recordsAt ws i) ≡ false
 record-past p ws i h = ap (anyRecord p) (records-past ws i h) ∙ (unfold anyRecord in refl)
+
+-- none of the k records at `at`, at any depth, meets a test that none of their places does
+module _ (p : Test) (ws : List ℕ) where
+  abbrev None : ℕ → ℕ → Type 0
+  None at k = ((j : ℕ) → at ≤ j → j < endOf ws at k → p (labelAt ws j) (kidsAt ws j) ≡ false) → anyRecord p (takeF k (recordsAt ws at)) ≡ false
+
+  none-nothing : (f : Trees) → f ≡ end → anyRecord p f ≡ false
+  unfolding anyRecord
+  none-nothing f e = rw e
+
+  none-step : (at : ℕ) → (at < length ws → (k : ℕ) → None (at + 1) k) → (k : ℕ) → None at k
+  none-step at later zero h = none-nothing (takeF 0 (recordsAt ws at)) (unfold takeF in refl)
+  none-step at later (suc k) h = by-end ws at here past
+    where
+      ends : at < length ws → endOf ws at (suc k) ≡ endOf ws (at + 1) (arityAt ws at + k)
+      ends l = unfold endOf in omega (arith, size-open ws at k l)
+
+      low : at < length ws → at < endOf ws at (suc k)
+      low l = unfold endOf in omega (arith, size-open ws at k l)
+
+      here : at < length ws → anyRecord p (takeF (suc k) (recordsAt ws at)) ≡ false
+      here l =
+          let own : p (labelAt ws at) (kidsAt ws at) ≡ false = h at (omega arith) (low l) in
+          ap (anyRecord p) (row-open ws at k l) ∙ record-node p (labelAt ws at) (kidsAt ws at) _ ∙ ap (λ (f : Trees). p (labelAt ws at) (kidsAt ws at) || anyRecord p f) (row-kids ws at k)
+          ∙ rw own (later l (arityAt ws at + k) (λ j a b. h j (omega arith) (omega (arith, b, ends l))))
+
+      past : length ws ≤ at → anyRecord p (takeF (suc k) (recordsAt ws at)) ≡ false
+      past l = none-nothing (takeF (suc k) (recordsAt ws at)) (ap (takeF (suc k)) (records-past ws at l) ∙ takeF-end (suc k))
+
+  none-within : (m at : ℕ) → length ws - at ≤ m → (k : ℕ) → None at k
+  none-within zero at h k = none-step at (λ l. absurd (omega arith)) k
+  none-within (suc m) at h k = none-step at (λ l. none-within m (at + 1) (omega arith)) k
+
+  pub none-records : (at k : ℕ) → ((j : ℕ) → at ≤ j → j < endOf ws at k → p (labelAt ws j) (kidsAt ws j) ≡ false) → anyRecord p (takeF k (recordsAt ws at)) ≡ false
+  none-records at k = none-within (length ws) at (omega arith) k

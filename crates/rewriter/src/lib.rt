@@ -7,7 +7,6 @@ ghost use mathlib.Core.List.{List};
 ghost use Prim.Native.Nat.{ℕ, _≤_};
 ghost use lib.Dec.{leb};
 ghost use lib.ListN.{length, take};
-ghost use Rattle.records.specs.Ends.{Ends};
 ghost use Rattle.grammar.specs.Scan.{refusal, symbolsOf};
 ghost use Rattle.rewriting.specs.Answer.{turnedBack, moduleWords, rewriteAnswer, rewriteLent};
 ghost use Rattle.rewriting.specs.DemandWords.{DemandWords};
@@ -57,7 +56,7 @@ fn rewrite_by(ws: &[u32], notes: &mut [u32], out: &mut [u32]) -> Answer
             fresh: 0,
         };
     }
-    annotate(ws, notes);
+    count_table::find_counts(ws, notes, inspect::payload_at(ws, 1));
     if !has_room(ws, notes, out.len()) {
         return Answer {
             code: 8,
@@ -81,29 +80,21 @@ pub fn turned_back(ws: &[u32]) -> u32
     turned_back_by(ws, &mut notes)
 }
 
-// `turned_back` with the notes lent, for `rewrite_by` and for `symbol_report`; with 0 they say where the record at each place ends.
+// `turned_back` with the notes lent, for `rewrite_by` and for `symbol_report`; with 0 they have the ends and the marks.
 pub fn turned_back_by(ws: &[u32], notes: &mut [u32]) -> u32
     requires { ⌜ (refusal (now ws) ≡ 0 → length (now ws) ≤ length (now notes)) ⌝ }
-    ensures { λ r. ⌜ (r ≡ turnedBack (now (ws .entry))) × (r ≡ 0 → Ends (now (ws .entry)) (now (notes .exit)) 0) × (length (now (notes .exit)) ≡ length (now (notes .entry))) ⌝ }
+    ensures { λ r. ⌜ (r ≡ turnedBack (now (ws .entry))) × (r ≡ 0 → Planned (now (ws .entry)) (now (notes .exit))) × (length (now (notes .exit)) ≡ length (now (notes .entry))) ⌝ }
 {
     let v = validation::number(validation::validate(ws));
     if v != 0 {
         return v;
     }
     records::find_ends(ws, notes);
-    if inspect::refused_7(ws, notes) {
+    mark_table::find_marks(ws, notes);
+    if mark_table::refused_7(ws, notes) {
         return 7;
     }
     0
-}
-
-// What else is noted of each place of the words: whether its class takes an alias, how many fresh symbols its record takes, whether that may change.
-fn annotate(ws: &[u32], notes: &mut [u32])
-    requires { ⌜ (refusal (now ws) ≡ 0) × Ends (now ws) (now notes) 0 ⌝ }
-    ensures { λ r. ⌜ Planned (now (ws .entry)) (now (notes .exit)) × Annotated (now (ws .entry)) (now (notes .exit)) 0 × (length (now (notes .exit)) ≡ length (now (notes .entry))) ⌝ }
-{
-    mark_table::find_marks(ws, notes);
-    count_table::find_counts(ws, notes, inspect::payload_at(ws, 1));
 }
 
 // Whether `room` words are enough for what the module becomes. Three times its words always are (`module-length`); else they are counted.

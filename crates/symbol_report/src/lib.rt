@@ -46,7 +46,6 @@ fn report_by(ws: &[u32], notes: &mut [u32], out: &mut [u32]) -> Answer
             fresh: 0,
         };
     }
-    mark_table::find_marks(ws, notes);
     if !has_room(ws, notes, out.len()) {
         return Answer {
             code: 8,

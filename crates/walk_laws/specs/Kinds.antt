@@ -106,7 +106,7 @@ after-element l around k s h e =
     (λ m r. after-constructor around l k s r ∙ sym (member-none (around .live && isDecoratedMember l k) (hasPlainKey k) (around .id) (visit around k s .after) (ap (around .live &&_) (no-member l k m) ∙ and-false (around .live))))
     (after-method around l k s h) (after-field around l k s h) refl
 
-below-4 : (q : Slot) (p : ℕ) → slotsBelow q 4 p ≡ classUnder p ∷ []
+pub below-4 : (q : Slot) (p : ℕ) → slotsBelow q 4 p ≡ classUnder p ∷ []
 unfolding slotsBelow slots rowOf table lookup row
 below-4 q p = refl
 

@@ -1,9 +1,9 @@
--- `find_counts`: the invariant says that the notes from the place on are right, and where the next word stands that may change.
-use Rattle.count_table.specs.Note.{Filled, filled-start, filled-behind, filled-next, down}
-use Rattle.counter.specs.Contract.{Annotated}
-use lib.ListN.{length}
-use native.Mathlib.Omega.{arith}
+-- `find_counts`: the invariant says that the notes from the place on are right, and where the next record stands that may change.
 use mathlib.Core.Path.{subst}
+use native.Mathlib.Omega.{arith}
+use lib.ListN.{length}
+use Rattle.counter.specs.Contract.{Annotated}
+use Rattle.count_table.specs.Note.{Filled, filled-start, filled-behind, filled-next, down}
 use Rattle.count_table.proofs.find_counts.Statement.{statement}
 use Rattle.count_table.proofs.find_counts.Tie as tie
 
@@ -21,23 +21,23 @@ sub-i c = omega (arith, c .loop-test .taken)
 
 next-change-requires : tie.Need-next-change-requires Inv-loop μ-loop
 next-change-requires c κs =
-    let d = down (c .before .loop .inv) (c .loop-test .taken) in
-    (omega (arith, d .low), d .clear)
+    let d = down (c .before .before .loop .inv) (c .before .loop-test .taken) in
+    (omega (arith, d .low), d .planned, d .clear)
 
 note-requires : tie.Need-note-requires Inv-loop μ-loop
-note-requires c κs = (filled-behind (c .before .before .before .before .before .before .pre) (down (c .before .before .before .loop .inv) (c .before .before .loop-test .taken)), c .before .next-change .ensures)
+note-requires c κs = (filled-behind (c .before .before .before .before .before .before .before .pre) (down (c .before .before .before .before .loop .inv) (c .before .before .before .loop-test .taken)), c .before .next-change .ensures)
 
 mul-notes : tie.Need-mul-notes Inv-loop μ-loop
-mul-notes c = omega (arith, c .before .before .before .before .loop .inv .low, c .before .before .before .before .before .before .before .pre .few)
+mul-notes c = omega (arith, c .before .before .before .before .before .loop .inv .low, c .before .before .before .before .before .before .before .before .pre .few)
 
 slice-write-notes : tie.Need-slice-write-notes Inv-loop μ-loop
-slice-write-notes c = omega (arith, c .before .before .before .before .loop .inv .low, c .before .before .before .before .loop .inv .planned .ends .long, c .before .before .before .loop-test .taken)
+slice-write-notes c = omega (arith, c .before .before .before .before .before .loop .inv .low, c .before .before .before .before .before .loop .inv .planned .ends .long, c .before .before .before .before .loop-test .taken)
 
 loop-less : tie.Need-loop-less Inv-loop μ-loop
-loop-less c = omega (arith, c .before .before .before .loop-test .taken)
+loop-less c = omega (arith, c .before .before .before .before .loop-test .taken)
 
 loop-again : tie.Need-loop-again Inv-loop μ-loop
-loop-again c = filled-next _ _ (down (c .before .before .before .before .loop .inv) (c .before .before .before .loop-test .taken)) (c .before .before .next-change .ensures) (c .note .ensures .0) (c .note .ensures .1)
+loop-again c = filled-next _ _ (down (c .before .before .before .before .before .loop .inv) (c .before .before .before .before .loop-test .taken)) (c .before .before .next-change .ensures) (c .note .ensures .0) (c .note .ensures .1)
 
 same-length : tie.Need-same-length Inv-loop μ-loop
 same-length c = c .before .loop .inv .long
