@@ -19,7 +19,7 @@ ghost use Rattle.records.specs.Place.{recordsAt, labelAt, arityAt, kidsAt, endO
 ghost use Rattle.output.specs.Overlay.{Wrote};
 ghost use Rattle.grammar.specs.Grammar.{element};
 ghost use Rattle.grammar.specs.WellFormed.{Allowed};
-ghost use Rattle.rewriting.specs.Parts.{plain, list, constructor, roleOf, bareParameters, indexed, ofParameters, isDecoratedMember, hasPlainKey, isLive};
+ghost use Rattle.rewriting.specs.Parts.{plain, list, constructor, roleOf, bareParameters, indexed, ofParameters, isDecoratedMember, hasPlainKey, hasPrivateIn, isLive};
 ghost use Rattle.class_stack.specs.Renaming.{capacity, Ready as StackReady, subs};
 ghost use Rattle.inspect.specs.Child.{optOf};
 ghost use Rattle.walk_laws.specs.Rows.{visitAt};
@@ -1021,7 +1021,7 @@ fn plan(ws: &[u32], notes: &[u32], at: usize, s: Count) -> ClassPlan
 {
     let id = inspect::class_id(ws, notes, at + 1);
     let decorated = notes[at + 1] % 2 == 1;
-    let private = inspect::has_private_in_expression(ws, notes, at + 1);
+    let private = private_at(ws, notes, at + 1);
     let b = inspect::body(ws, notes, at + 1);
     let k = inspect::children_at(ws, b);
     let fixed = inspect::has_static(ws, notes, b + 1, k);
@@ -1060,6 +1060,17 @@ fn plan(ws: &[u32], notes: &[u32], at: usize, s: Count) -> ClassPlan
         fixed,
         calls,
     }
+}
+
+// Rule 9: has the class at `at` a private-in test in a decorator? The mark of place 1 says whether the module may have one.
+fn private_at(ws: &[u32], notes: &[u32], at: usize) -> bool
+    requires { ⌜ Planned (now ws) (now notes) × (1 < length (now ws)) ⌝ }
+    ensures { λ r. ⌜ r ≡ hasPrivateIn (kidsAt (now (ws .entry)) at) ⌝ }
+{
+    if notes[1] % 2 == 0 {
+        return false;
+    }
+    inspect::has_private_in_expression(ws, notes, at)
 }
 
 // The alias of the class of the statement at `at`, whose inner symbol is n.

@@ -28,11 +28,11 @@ mul-decorated c = search needs
 shared-slice-read-decorated : tie.Need-shared-slice-read-decorated
 shared-slice-read-decorated c = omega (arith, c .before .before .before .before .pre .2 .ends .long, c .before .before .before .before .pre .5)
 
-add-has-private-in-expression : tie.Need-add-has-private-in-expression
-add-has-private-in-expression c = search needs
+add-private-at : tie.Need-add-private-at
+add-private-at c = search needs
 
-has-private-in-expression-requires : tie.Need-has-private-in-expression-requires
-has-private-in-expression-requires c κs = c .before .before .before .before .pre .2 .ends
+private-at-requires : tie.Need-private-at-requires
+private-at-requires c κs = let p = c .before .before .before .before .pre in (p .2, omega (arith, p .5))
 
 add-body : tie.Need-add-body
 add-body c = search needs
@@ -66,7 +66,7 @@ returns c =
     let a = c .before .before .before .before .before .before .before .before .before .before .before .before .args in
     let k = takeF (c .before .before .before .before .before .children-at .result) (recordsAt (a .ws .now) (c .before .before .before .before .before .before .body .result + 1)) in
     plan-from k (kids-row (a .ws .now) (c .before .before .before .before .before .before .body .result) (c .before .before .before .before .before .children-at .result) (c .before .before .before .before .before .children-at .ensures .0) ∙ c .before .before .before .before .before .before .body .ensures .0)
-    (c .before .before .before .before .before .before .before .before .before .class-id .ensures .0) (c .before .before .before .before .before .before .before .before .before .before .before .before .pre .2 .classes (a .at + 1) (c .before .before .before .before .before .before .before .before .before .before .before .before .pre .5) (c .before .before .before .before .before .before .before .before .before .before .before .before .pre .6)) (c .before .before .before .before .before .before .before .has-private-in-expression .ensures) (c .before .before .before .before .has-static .ensures) (c .before .before .before .call-count .ensures)
+    (c .before .before .before .before .before .before .before .before .before .class-id .ensures .0) (c .before .before .before .before .before .before .before .before .before .before .before .before .pre .2 .classes (a .at + 1) (c .before .before .before .before .before .before .before .before .before .before .before .before .pre .5) (c .before .before .before .before .before .before .before .before .before .before .before .before .pre .6)) (c .before .before .before .before .before .before .before .private-at .ensures) (c .before .before .before .before .has-static .ensures) (c .before .before .before .call-count .ensures)
     (found-nameless (markIn (getD (a .notes .now) (a .at) 0)) (a .s .next) (a .s .default) _ (c .before .before .before .before .before .before .before .before .before .before .before .before .pre .3) (c .before .before .before .before .before .before .before .before .before .before .before .before .pre .4) (c .before .before .before .before .before .before .before .before .before .class-id .ensures .1) (c .before .before .if1 .taken) (c .before .if2 .taken) (c .symbol-of .ensures .0 (inr (omega (arith, c .before .before .before .before .before .before .before .before .before .before .before .before .pre .3)))) refl refl)
 
 alias-of-requires : tie.Need-alias-of-requires
@@ -77,7 +77,7 @@ returns-2 c =
     let a = c .before .before .before .before .before .before .before .before .before .before .before .before .args in
     let k = takeF (c .before .before .before .before .before .children-at .result) (recordsAt (a .ws .now) (c .before .before .before .before .before .before .body .result + 1)) in
     plan-from k (kids-row (a .ws .now) (c .before .before .before .before .before .before .body .result) (c .before .before .before .before .before .children-at .result) (c .before .before .before .before .before .children-at .ensures .0) ∙ c .before .before .before .before .before .before .body .ensures .0)
-    (c .before .before .before .before .before .before .before .before .before .class-id .ensures .0) (c .before .before .before .before .before .before .before .before .before .before .before .before .pre .2 .classes (a .at + 1) (c .before .before .before .before .before .before .before .before .before .before .before .before .pre .5) (c .before .before .before .before .before .before .before .before .before .before .before .before .pre .6)) (c .before .before .before .before .before .before .before .has-private-in-expression .ensures) (c .before .before .before .before .has-static .ensures) (c .before .before .before .call-count .ensures)
+    (c .before .before .before .before .before .before .before .before .before .class-id .ensures .0) (c .before .before .before .before .before .before .before .before .before .before .before .before .pre .2 .classes (a .at + 1) (c .before .before .before .before .before .before .before .before .before .before .before .before .pre .5) (c .before .before .before .before .before .before .before .before .before .before .before .before .pre .6)) (c .before .before .before .before .before .before .before .private-at .ensures) (c .before .before .before .before .has-static .ensures) (c .before .before .before .call-count .ensures)
     (found-named (markIn (getD (a .notes .now) (a .at) 0)) (a .s .next) (a .s .default) _ (c .before .before .before .before .before .before .before .before .before .before .before .before .pre .3) (c .before .before .before .before .before .before .before .before .before .before .before .before .pre .4) (c .before .before .before .before .before .before .before .before .before .class-id .ensures .1) (c .before .before .if1 .taken) (c .before .if2 .left) refl refl (c .alias-of .ensures .0) (c .alias-of .ensures .1))
 
 symbol-of-requires-2 : tie.Need-symbol-of-requires-2
@@ -88,7 +88,7 @@ returns-3 c =
     let a = c .before .before .before .before .before .before .before .before .before .before .before .args in
     let k = takeF (c .before .before .before .before .children-at .result) (recordsAt (a .ws .now) (c .before .before .before .before .before .body .result + 1)) in
     plan-from k (kids-row (a .ws .now) (c .before .before .before .before .before .body .result) (c .before .before .before .before .children-at .result) (c .before .before .before .before .children-at .ensures .0) ∙ c .before .before .before .before .before .body .ensures .0)
-    (c .before .before .before .before .before .before .before .before .class-id .ensures .0) (c .before .before .before .before .before .before .before .before .before .before .before .pre .2 .classes (a .at + 1) (c .before .before .before .before .before .before .before .before .before .before .before .pre .5) (c .before .before .before .before .before .before .before .before .before .before .before .pre .6)) (c .before .before .before .before .before .before .has-private-in-expression .ensures) (c .before .before .before .has-static .ensures) (c .before .before .call-count .ensures)
+    (c .before .before .before .before .before .before .before .before .class-id .ensures .0) (c .before .before .before .before .before .before .before .before .before .before .before .pre .2 .classes (a .at + 1) (c .before .before .before .before .before .before .before .before .before .before .before .pre .5) (c .before .before .before .before .before .before .before .before .before .before .before .pre .6)) (c .before .before .before .before .before .before .private-at .ensures) (c .before .before .before .has-static .ensures) (c .before .before .call-count .ensures)
     (found-undecorated (markIn (getD (a .notes .now) (a .at) 0)) (a .s .next) (a .s .default) _ (c .before .before .before .before .before .before .before .before .before .before .before .pre .3) (c .before .before .before .before .before .before .before .before .before .before .before .pre .4) (c .before .before .before .before .before .before .before .before .class-id .ensures .1) (c .before .if1 .left) (c .symbol-of2 .ensures .1) refl)
 
 pub plan-spec : {M : Type 1} → statement M
@@ -100,8 +100,8 @@ plan-spec =
     add-decorated
     mul-decorated
     shared-slice-read-decorated
-    add-has-private-in-expression
-    has-private-in-expression-requires
+    add-private-at
+    private-at-requires
     add-body
     body-requires
     children-at-requires
