@@ -19,7 +19,7 @@ ghost use Rattle.records.specs.Place.{recordsAt, labelAt, arityAt, kidsAt, endO
 ghost use Rattle.output.specs.Overlay.{Wrote};
 ghost use Rattle.grammar.specs.Grammar.{element};
 ghost use Rattle.grammar.specs.WellFormed.{Allowed};
-ghost use Rattle.rewriting.specs.Parts.{plain, list, constructor, roleOf, bareParameters, indexed, ofParameters, isDecoratedMember, hasPlainKey, hasPrivateIn, isLive};
+ghost use Rattle.rewriting.specs.Parts.{plain, list, constructor, roleOf, bareParameters, indexed, ofParameters, isDecoratedMember, hasPlainKey, idOf, hasPrivateIn, isLive};
 ghost use Rattle.class_stack.specs.Renaming.{capacity, Ready as StackReady, subs};
 ghost use Rattle.inspect.specs.Child.{optOf};
 ghost use Rattle.walk_laws.specs.Rows.{visitAt};
@@ -28,7 +28,7 @@ ghost use Rattle.walk_laws.specs.Slots.{RowFits};
 ghost use Rattle.walk_laws.specs.Kinds.{isElementKind};
 ghost use Rattle.walk_laws.specs.Members.{parametersWords};
 ghost use Rattle.walk_laws.specs.Calls.{symbolOf, prefixWords, nameWord, argumentWords, entries};
-ghost use Rattle.walk_laws.specs.ClassPlan.{optional, one, exportWords, ds, classWords, queueWords, queueCount, atBody, bodyAt};
+ghost use Rattle.walk_laws.specs.ClassPlan.{optional, one, exportWords, ds, classWords, queueWords, queueCount, atBody, atEnd, bodyAt};
 ghost use Rattle.counter.specs.Contract.{aroundOf, stateOf, markIn, Planned, Below, Ready, Annotated};
 ghost use Rattle.transform.specs.Nest.{nestAt};
 ghost use Rattle.transform.specs.Contract.{wordBelow, wordsOf, stateIn, hereAt, callsAt, afterAt, kidsHere, Asks, Moved, Emitted, Queues, behindWords, memberWords, takesKey};
@@ -1129,6 +1129,17 @@ fn plan_at(ws: &[u32], notes: &[u32], at: usize, n: u32) -> ClassPlan
     ensures { λ r. ⌜ Plans (now (ws .entry)) at n r ⌝ }
 {
     let id = inspect::class_id(ws, notes, at + 1);
+    if id != NONE {
+        return plan(
+            ws,
+            notes,
+            at,
+            Count {
+                next: next_behind(ws, notes, at, id, n),
+                default: NONE,
+            },
+        );
+    }
     let r = counter::count_records(
         ws,
         notes,
@@ -1149,6 +1160,14 @@ fn plan_at(ws: &[u32], notes: &[u32], at: usize, n: u32) -> ClassPlan
             default: r.default,
         },
     )
+}
+
+// The next fresh symbol behind the children of the same class, where it has the id `id`: the statement's note counts its symbols, rule 6's included.
+fn next_behind(ws: &[u32], notes: &[u32], at: usize, id: u32, n: u32) -> u32
+    requires { ⌜ Ready (now ws) (now notes) at n × (at < length (now ws)) × (labelAt (now ws) at .kind ≡ 4) × (isLive (takeF 1 (recordsAt (now ws) (at + 1))) ≡ true) × Annotated (now ws) (now notes) at × (optOf id ≡ idOf (kidsAt (now ws) (at + 1))) × (id ≡ 67108864 → ⊥) ⌝ }
+    ensures { λ r. ⌜ r ≡ atEnd (now (ws .entry)) at n .next ⌝ }
+{
+    n + notes[at] / 4 % 16384 - counter::class_count(ws, notes, at, id, NONE)
 }
 
 // The words in front of the class (rules 8 and 9); p is the payload of the statement.
