@@ -8,17 +8,17 @@ use native.Mathlib.Numerals.{add-one}
 use native.Mathlib.Omega.{arith}
 use lib.Dec.{eqb}
 use lib.ListN.{length, getD, replicate}
-use borrow.Author.Tests.{eqb-true, eqb-false}
+use borrow.Author.Tests.{eqb-true, eqb-false, ne-eqb}
 use Rattle.records.specs.Forest.{end, node, size, takeF, dropF, countF, countF-append, count-size, size-take-drop}
 use Rattle.records.specs.Label.{Label, Trees, _∶_}
-use Rattle.records.specs.Place.{recordsAt, labelAt, arityAt, kidsAt, endOf, records-first, size-records}
+use Rattle.records.specs.Place.{recordsAt, labelAt, arityAt, kidsAt, endOf, records-first, size-records, kids-past}
 use Rattle.grammar.specs.Grammar.{element, module′}
 use Rattle.grammar.specs.WellFormed.{Allowed, Fits}
 use Rattle.rewriting.specs.Parts.{Role, module′ as moduleRole, list, statement, expression, method, constructor, plain, field, roleOf, decorators, decoratorsOf, bareMethod, bareField, isDecoratedMember, hasPlainKey, elementsOf, idOf, hasPrivateIn, hasStatic, isDecorated, isLive}
 use Rattle.rewriting.specs.Visit.{Around, State, Result, Taken, classSymbol, nameIf, nameOf, called₁, called₂, memberIf, member, kept, deadClass, own, since, work, inside, entering, join, _then_, visit, visitOne}
 use Rattle.rewriting.specs.Facts.{counter}
-use Rattle.inspect.specs.Row.{Test, countRow}
-use Rattle.inspect.specs.Child.{optOf, opt-is, opt-no, opt-some, opt-none}
+use Rattle.inspect.specs.Row.{Test, countRow, count-none}
+use Rattle.inspect.specs.Child.{optOf, opt-is, opt-no, opt-some, opt-none, kids-row}
 use Rattle.inspect.specs.Class.{countCalled}
 use Rattle.walk_laws.specs.Rows.{visitAt, fresh, row-none}
 use Rattle.walk_laws.specs.After.{mentioned}
@@ -29,7 +29,7 @@ use Rattle.walk_laws.specs.First.{elements-row}
 use Rattle.walk_laws.specs.Calls.{symbolOf, call-none, call-count, calls-more}
 use Rattle.walk_laws.specs.ClassPlan.{Plan, either, decoratedPlan, planOf, rk, scope, bodyAt, atBody, atEnd, els, queue, plan}
 use Rattle.walk_laws.specs.ClassFacts.{body-in, body-kind, own-elements, elements-visited}
-use Rattle.counter.specs.Contract.{aroundOf, stateOf, markIn, unlive, Below, elementsFrom, Ready, Counts, Annotated, hasDefault, classCount}
+use Rattle.counter.specs.Contract.{aroundOf, stateOf, markIn, unlive, Below, elementsFrom, Planned, Ready, Counts, Annotated, hasDefault, classCount}
 use Rattle.counter.specs.Steps.{below-more, counts-high, counts-within, count-live}
 use Rattle.counter.specs.Totals.{note-at, ready-free, class-symbols}
 use Rattle.counter.specs.declared.Scope.{Scope}
@@ -205,15 +205,16 @@ module _ (m : Bool) (n d : ℕ) (g : ClassPlan) (room : n + 1 < 67108864) (few :
     sizes = (known, inner-le j, omega (arith, a), λ t. let z : _≡_ {A = ℕ} 0 1 = cc in absurd (omega arith));
   }
 
--- k: its elements
-pub plan-from : {ws notes : List ℕ} {at : ℕ} {s : Count} {g : ClassPlan} (k : Trees) → k ≡ elementsOf (kidsAt ws (at + 1)) →
-    optOf (g .id) ≡ idOf (kidsAt ws (at + 1)) → g .decorated ≡ isDecorated (kidsAt ws (at + 1)) → g .private ≡ hasPrivateIn (kidsAt ws (at + 1)) → g .fixed ≡ hasStatic k → g .calls ≡ countCalled k →
+-- b: the place of its body; k: the number of elements
+pub plan-from : {ws notes : List ℕ} {at : ℕ} {s : Count} {g : ClassPlan} (b k : ℕ) → kidsAt ws b ≡ elementsOf (kidsAt ws (at + 1)) → k ≡ arityAt ws b →
+    optOf (g .id) ≡ idOf (kidsAt ws (at + 1)) → g .decorated ≡ isDecorated (kidsAt ws (at + 1)) → g .private ≡ hasPrivateIn (kidsAt ws (at + 1)) →
+    g .fixed ≡ hasStatic (takeF k (recordsAt ws (b + 1))) → g .calls ≡ countCalled (kidsAt ws b) →
     FoundSymbols (markIn (getD notes at 0)) (s .next) (s .default) g → PlanFrom ws notes at s g
-plan-from k e i d p x c f = record {
+plan-from {ws} b k e l i d p x c f = record {
   id = i;
   decorated = d;
   private = p;
-  fixed = x ∙ ap hasStatic e;
+  fixed = x ∙ ap hasStatic (kids-row ws b k l ∙ e);
   calls = c ∙ ap countCalled e;
   outer = f .outer;
   inner = f .inner;
@@ -236,6 +237,15 @@ pub called-few : (ws : List ℕ) (at k : ℕ) → countCalled (takeF k (recordsA
 unfolding countCalled
 called-few ws at k =
     omega (arith, count-le isDecoratedMember (takeF k (recordsAt ws at)), count-size (takeF k (recordsAt ws at)), size-take-drop k (recordsAt ws at), size-records ws at)
+
+-- in a body without a mark, and past the end
+pub called-unmarked : {ws notes : List ℕ} (b : ℕ) → Planned ws notes → b < length ws → labelAt ws b .kind ≡ 29 → getD notes b 0 % 2 ≡ 0 → 0 ≡ countCalled (kidsAt ws b)
+unfolding countCalled
+called-unmarked {ws} {notes} b p h kind e = sym (count-none isDecoratedMember (kidsAt ws b) (sym (p .bodies b h kind) ∙ ne-eqb (getD notes b 0 % 2) 1 (omega arith)))
+
+pub called-past : (ws : List ℕ) (b : ℕ) → length ws ≤ b → 0 ≡ countCalled (kidsAt ws b)
+unfolding countCalled countRow
+called-past ws b h = rw (kids-past ws b h)
 
 module _ (ws : List ℕ) (whole : Fits (module′ ∷ []) (recordsAt ws 0)) (around : Around) (live : around .live ≡ true) where
   anyWord : ℕ → ℕ → ℕ

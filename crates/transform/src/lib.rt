@@ -22,6 +22,7 @@ ghost use Rattle.grammar.specs.WellFormed.{Allowed};
 ghost use Rattle.rewriting.specs.Parts.{plain, list, constructor, roleOf, bareParameters, indexed, ofParameters, isDecoratedMember, hasPlainKey, idOf, hasPrivateIn, isLive};
 ghost use Rattle.class_stack.specs.Renaming.{capacity, Ready as StackReady, subs};
 ghost use Rattle.inspect.specs.Child.{optOf};
+ghost use Rattle.inspect.specs.Class.{countCalled};
 ghost use Rattle.walk_laws.specs.Rows.{visitAt};
 ghost use Rattle.walk_laws.specs.Written.{written};
 ghost use Rattle.walk_laws.specs.Slots.{RowFits};
@@ -1023,9 +1024,8 @@ fn plan(ws: &[u32], notes: &[u32], at: usize, s: Count) -> ClassPlan
     let decorated = notes[at + 1] % 2 == 1;
     let private = private_at(ws, notes, at + 1);
     let b = inspect::body(ws, notes, at + 1);
-    let k = inspect::children_at(ws, b);
-    let fixed = inspect::has_static(ws, notes, b + 1, k);
-    let calls = inspect::call_count(ws, notes, b + 1, k) as u32;
+    let fixed = inspect::has_static(ws, notes, b + 1, inspect::children_at(ws, b));
+    let calls = call_count_at(ws, notes, b);
     if decorated {
         if id == NONE {
             return ClassPlan {
@@ -1071,6 +1071,20 @@ fn private_at(ws: &[u32], notes: &[u32], at: usize) -> bool
         return false;
     }
     inspect::has_private_in_expression(ws, notes, at)
+}
+
+// The number of decorated members in the body at b, or 0 past the end. The body's mark says whether there is one.
+fn call_count_at(ws: &[u32], notes: &[u32], b: usize) -> u32
+    requires { ⌜ (length (now ws) ≤ 4096) × Planned (now ws) (now notes) × (b < length (now ws) → labelAt (now ws) b .kind ≡ 29) ⌝ }
+    ensures { λ r. ⌜ r ≡ countCalled (kidsAt (now (ws .entry)) b) ⌝ }
+{
+    if ws.len() <= b {
+        return 0;
+    }
+    if notes[b] % 2 == 0 {
+        return 0;
+    }
+    inspect::call_count(ws, notes, b + 1, inspect::children_at(ws, b)) as u32
 }
 
 // The alias of the class of the statement at `at`, whose inner symbol is n.
