@@ -4,6 +4,7 @@ pub mod Contract
 pub mod ClassWords
 pub mod Leaves
 pub mod Marks
+pub mod Tests
 pub mod Plans
 pub mod Steps
 pub mod StepsClasses

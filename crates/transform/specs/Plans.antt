@@ -3,22 +3,22 @@ use mathlib.Core.Path.{_≡_, refl, ap, sym, _∙_, subst}
 use mathlib.Core.Bool.{Bool, true, false, _&&_, cond}
 use mathlib.Core.Option.{Option, none, some}
 use mathlib.Core.List.{List, [], _∷_}
-use Prim.Native.Nat.{ℕ, zero, suc, _+_, _<_, _≤_}
+use Prim.Native.Nat.{ℕ, zero, suc, _+_, _*_, _/_, _%_, _<_, _≤_}
 use native.Mathlib.Numerals.{add-one}
 use native.Mathlib.Omega.{arith}
 use lib.Dec.{eqb}
 use lib.ListN.{length, getD, replicate}
-use borrow.Author.Tests.{eqb-true, eqb-false}
-use Rattle.records.specs.Forest.{end, node, takeF, dropF, countF, countF-append, count-size, size-take-drop}
+use borrow.Author.Tests.{eqb-true, eqb-false, ne-eqb}
+use Rattle.records.specs.Forest.{end, node, size, takeF, dropF, countF, countF-append, count-size, size-take-drop}
 use Rattle.records.specs.Label.{Label, Trees, _∶_}
-use Rattle.records.specs.Place.{recordsAt, labelAt, arityAt, kidsAt, endOf, records-first, size-records}
+use Rattle.records.specs.Place.{recordsAt, labelAt, arityAt, kidsAt, endOf, records-first, size-records, kids-past}
 use Rattle.grammar.specs.Grammar.{element, module′}
 use Rattle.grammar.specs.WellFormed.{Allowed, Fits}
 use Rattle.rewriting.specs.Parts.{Role, module′ as moduleRole, list, statement, expression, method, constructor, plain, field, roleOf, decorators, decoratorsOf, bareMethod, bareField, isDecoratedMember, hasPlainKey, elementsOf, idOf, hasPrivateIn, hasStatic, isDecorated, isLive}
 use Rattle.rewriting.specs.Visit.{Around, State, Result, Taken, classSymbol, nameIf, nameOf, called₁, called₂, memberIf, member, kept, deadClass, own, since, work, inside, entering, join, _then_, visit, visitOne}
 use Rattle.rewriting.specs.Facts.{counter}
-use Rattle.inspect.specs.Row.{Test, countRow}
-use Rattle.inspect.specs.Child.{optOf, opt-is, opt-no, opt-some, opt-none}
+use Rattle.inspect.specs.Row.{Test, countRow, count-none}
+use Rattle.inspect.specs.Child.{optOf, opt-is, opt-no, opt-some, opt-none, kids-row}
 use Rattle.inspect.specs.Class.{countCalled}
 use Rattle.walk_laws.specs.Rows.{visitAt, fresh, row-none}
 use Rattle.walk_laws.specs.After.{mentioned}
@@ -29,8 +29,9 @@ use Rattle.walk_laws.specs.First.{elements-row}
 use Rattle.walk_laws.specs.Calls.{symbolOf, call-none, call-count, calls-more}
 use Rattle.walk_laws.specs.ClassPlan.{Plan, either, decoratedPlan, planOf, rk, scope, bodyAt, atBody, atEnd, els, queue, plan}
 use Rattle.walk_laws.specs.ClassFacts.{body-in, body-kind, own-elements, elements-visited}
-use Rattle.counter.specs.Contract.{aroundOf, stateOf, markIn, Below, elementsFrom, Ready, Counts}
-use Rattle.counter.specs.Steps.{below-more, counts-high, counts-within}
+use Rattle.counter.specs.Contract.{aroundOf, stateOf, markIn, unlive, Below, elementsFrom, Planned, Ready, Counts, Annotated, hasDefault, classCount}
+use Rattle.counter.specs.Steps.{below-more, counts-high, counts-within, count-live}
+use Rattle.counter.specs.Totals.{note-at, ready-free, class-symbols}
 use Rattle.counter.specs.declared.Scope.{Scope}
 use Rattle.counter.specs.declared.Count.{Count}
 use Rattle.counter.specs.declared.Counted.{Counted}
@@ -118,6 +119,11 @@ unfolding Below numberOf
 below-le m none h b = omega arith
 below-le m (some c) h b = omega arith
 
+opt-number : (m : ℕ) (o : Option ℕ) → m ≤ 67108864 → Below m o → optOf (numberOf o) ≡ o
+unfolding Below numberOf
+opt-number m none h b = opt-none
+opt-number m (some c) h b = opt-some c (omega arith)
+
 -- a default symbol that was counted
 pub counts-default : {ws : List ℕ} {at k : ℕ} {a : Scope} {n d : ℕ} {r : Counted} → Counts ws at k a n d r → Below n (optOf d) → Below (r .next) (optOf (r .default))
 counts-default {ws} {at} {k} {a} {n} {d} {r} c b =
@@ -199,15 +205,16 @@ module _ (m : Bool) (n d : ℕ) (g : ClassPlan) (room : n + 1 < 67108864) (few :
     sizes = (known, inner-le j, omega (arith, a), λ t. let z : _≡_ {A = ℕ} 0 1 = cc in absurd (omega arith));
   }
 
--- k: its elements
-pub plan-from : {ws notes : List ℕ} {at : ℕ} {s : Count} {g : ClassPlan} (k : Trees) → k ≡ elementsOf (kidsAt ws (at + 1)) →
-    optOf (g .id) ≡ idOf (kidsAt ws (at + 1)) → g .decorated ≡ isDecorated (kidsAt ws (at + 1)) → g .private ≡ hasPrivateIn (kidsAt ws (at + 1)) → g .fixed ≡ hasStatic k → g .calls ≡ countCalled k →
+-- b: the place of its body; k: the number of elements
+pub plan-from : {ws notes : List ℕ} {at : ℕ} {s : Count} {g : ClassPlan} (b k : ℕ) → kidsAt ws b ≡ elementsOf (kidsAt ws (at + 1)) → k ≡ arityAt ws b →
+    optOf (g .id) ≡ idOf (kidsAt ws (at + 1)) → g .decorated ≡ isDecorated (kidsAt ws (at + 1)) → g .private ≡ hasPrivateIn (kidsAt ws (at + 1)) →
+    g .fixed ≡ hasStatic (takeF k (recordsAt ws (b + 1))) → g .calls ≡ countCalled (kidsAt ws b) →
     FoundSymbols (markIn (getD notes at 0)) (s .next) (s .default) g → PlanFrom ws notes at s g
-plan-from k e i d p x c f = record {
+plan-from {ws} b k e l i d p x c f = record {
   id = i;
   decorated = d;
   private = p;
-  fixed = x ∙ ap hasStatic e;
+  fixed = x ∙ ap hasStatic (kids-row ws b k l ∙ e);
   calls = c ∙ ap countCalled e;
   outer = f .outer;
   inner = f .inner;
@@ -230,6 +237,15 @@ pub called-few : (ws : List ℕ) (at k : ℕ) → countCalled (takeF k (recordsA
 unfolding countCalled
 called-few ws at k =
     omega (arith, count-le isDecoratedMember (takeF k (recordsAt ws at)), count-size (takeF k (recordsAt ws at)), size-take-drop k (recordsAt ws at), size-records ws at)
+
+-- in a body without a mark, and past the end
+pub called-unmarked : {ws notes : List ℕ} (b : ℕ) → Planned ws notes → b < length ws → labelAt ws b .kind ≡ 29 → getD notes b 0 % 2 ≡ 0 → 0 ≡ countCalled (kidsAt ws b)
+unfolding countCalled
+called-unmarked {ws} {notes} b p h kind e = sym (count-none isDecoratedMember (kidsAt ws b) (sym (p .bodies b h kind) ∙ ne-eqb (getD notes b 0 % 2) 1 (omega arith)))
+
+pub called-past : (ws : List ℕ) (b : ℕ) → length ws ≤ b → 0 ≡ countCalled (kidsAt ws b)
+unfolding countCalled countRow
+called-past ws b h = rw (kids-past ws b h)
 
 module _ (ws : List ℕ) (whole : Fits (module′ ∷ []) (recordsAt ws 0)) (around : Around) (live : around .live ≡ true) where
   anyWord : ℕ → ℕ → ℕ
@@ -287,16 +303,20 @@ plan-search : (x : Bool) (id : Option ℕ) (t : State) (m k : Bool) → (x ≡ t
 plan-search true id t m k e = ap (planOf true id t) (e refl)
 plan-search false id t m k e = unfold planOf in refl
 
+-- the class visited, by its id
+class-visit : (ws : List ℕ) (at n id : ℕ) → optOf id ≡ idOf (kidsAt ws (at + 1)) →
+    visitAt ws (at + 1) 1 (aroundOf (record { live = true; id = id })) (stateOf n 67108864) .after ≡ atEnd ws at n
+unfolding atEnd
+class-visit ws at n id known =
+    let s : stateOf n 67108864 ≡ fresh n = unfold stateOf fresh in ap (λ (o : Option ℕ). record { next = n; default = o }) opt-none in
+    let w : aroundOf (record { live = true; id = id }) ≡ scope ws at = unfold aroundOf scope rk in ap (λ (o : Option ℕ). record { live = true; id = o }) known in
+    cc (s, w)
+
 module _ {ws notes : List ℕ} {at n : ℕ} (f : Ready ws notes at n) (h : at < length ws) (kind : labelAt ws at .kind ≡ 4) (live : isLive (takeF 1 (recordsAt ws (at + 1))) ≡ true)
     (id : ℕ) (known : optOf id ≡ idOf (kidsAt ws (at + 1))) {r : Counted} (c : Counts ws (at + 1) 1 (record { live = true; id = id }) n 67108864 r) where
   -- the state behind the class's children
   end-state : atEnd ws at n ≡ stateOf (r .next) (r .default)
-  unfolding atEnd
-  end-state =
-      let a : Scope = record { live = true; id = id } in
-      let s : stateOf n 67108864 ≡ fresh n = unfold stateOf fresh in ap (λ (o : Option ℕ). record { next = n; default = o }) opt-none in
-      let w : aroundOf a ≡ scope ws at = unfold aroundOf scope rk in ap (λ (o : Option ℕ). record { live = true; id = o }) known in
-      cc (s, w, c .state)
+  end-state = sym (class-visit ws at n id known) ∙ c .state
 
   pub plan-next : r .next + 1 < 67108864
   plan-next = omega (arith, counts-high c, counts-within c (omega arith), f .room)
@@ -333,3 +353,78 @@ module _ {ws notes : List ℕ} {at n : ℕ} (f : Ready ws notes at n) (h : at < 
       alias = p .alias ∙ ap (λ (x : Plan). x .alias) planned;
       sizes = p .sizes;
     }
+
+-- ---- a class with an id: neither its plan nor rule 6's symbols depend on its default symbol
+
+plan-named : (x : Bool) (i n d e : ℕ) (m : Bool) → (i ≡ 67108864 → ⊥) → planOf x (optOf i) (stateOf n d) m ≡ planOf x (optOf i) (stateOf n e) m
+unfolding planOf decoratedPlan stateOf either symbolOf
+plan-named true i n d e m h = rw (opt-is i h)
+plan-named false i n d e m h = rw (opt-is i h)
+
+count-named : (x : Bool) (i : ℕ) (m a b : Bool) → (i ≡ 67108864 → ⊥) → classCount x (optOf i) m a ≡ classCount x (optOf i) m b
+unfolding classCount
+count-named true i true a b h = rw (opt-is i h)
+count-named true i false a b h = rw (opt-is i h)
+count-named false i m a b h = refl
+
+next-same : (i j d e : ℕ) → stateOf i d ≡ stateOf j e → i ≡ j
+unfolding stateOf
+next-same i j d e g = ap (λ (s : State). s .next) g
+
+from-named : {ws notes : List ℕ} {at n d : ℕ} {g : ClassPlan} (e : ℕ) → (g .id ≡ 67108864 → ⊥) → PlanFrom ws notes at (record { next = n; default = d }) g → PlanFrom ws notes at (record { next = n; default = e }) g
+from-named {ws} {notes} {at} {n} {d} {g} e h p =
+    let same : (x : Bool) → planOf x (optOf (g .id)) (stateOf n d) (markIn (getD notes at 0)) ≡ planOf x (optOf (g .id)) (stateOf n e) (markIn (getD notes at 0)) =
+    λ x. plan-named x (g .id) n d e (markIn (getD notes at 0)) h in
+    record {
+      id = p .id;
+      decorated = p .decorated;
+      private = p .private;
+      fixed = p .fixed;
+      calls = p .calls;
+      outer = λ t. p .outer t ∙ ap (λ (y : Plan). y .outer) (same true);
+      inner = p .inner ∙ ap (λ (y : Plan). y .inner) (same (g .decorated));
+      alias = p .alias ∙ ap (λ (y : Plan). y .alias) (same (g .decorated));
+      sizes = p .sizes;
+    }
+
+module _ {ws notes : List ℕ} {at n : ℕ} (f : Ready ws notes at n) (h : at < length ws) (kind : labelAt ws at .kind ≡ 4) (live : isLive (takeF 1 (recordsAt ws (at + 1))) ≡ true)
+    (id : ℕ) (known : optOf id ≡ idOf (kidsAt ws (at + 1))) (some-id : id ≡ 67108864 → ⊥) where
+  -- the class, counted: the state behind its children by its numbers
+  behind : Counted
+  behind = record { at = endOf ws (at + 1) 1; next = atEnd ws at n .next; default = numberOf (atEnd ws at n .default) }
+
+  end-numbers : atEnd ws at n ≡ stateOf (atEnd ws at n .next) (numberOf (atEnd ws at n .default))
+  unfolding atEnd visitAt stateOf
+  end-numbers =
+      let t : State = visit (scope ws at) (takeF 1 (recordsAt ws (at + 1))) (fresh n) .after in
+      let few : t .next ≤ n + 2 * size (takeF 1 (recordsAt ws (at + 1))) = unfold fresh in counter (takeF 1 (recordsAt ws (at + 1))) (scope ws at) (fresh n) .high in
+      let low : Below (t .next) (t .default) = default-below (takeF 1 (recordsAt ws (at + 1))) (scope ws at) (fresh n) (unfold fresh Below in tt) in
+      let room : t .next ≤ 67108864 = omega (arith, few, size-take-drop 1 (recordsAt ws (at + 1)), size-records ws (at + 1), f .room) in
+      ap (λ (o : Option ℕ). record { next = t .next; default = o }) (sym (opt-number (t .next) (t .default) room low))
+
+  visited : Counts ws (at + 1) 1 (record { live = true; id = id }) n 67108864 behind
+  unfolding behind
+  visited = record { place = refl; state = class-visit ws at n id known ∙ end-numbers }
+
+  pub named-room : atEnd ws at n .next + 1 < 67108864
+  unfolding behind
+  named-room = plan-next f h kind live id known visited
+
+  -- the statement's symbols are its class's, then rule 6's
+  pub named-symbols : Annotated ws notes at →
+      n + getD notes at 0 / 4 % 16384 ≡ atEnd ws at n .next + classCount (isDecorated (kidsAt ws (at + 1))) (optOf id) (markIn (getD notes at 0)) (hasDefault 67108864)
+  unfolding behind
+  named-symbols noted =
+      let x : Bool = isDecorated (kidsAt ws (at + 1)) in
+      let m : Bool = markIn (getD notes at 0) in
+      let e : ℕ = numberOf (atEnd ws at n .default) in
+      let counted : Counts ws at 1 unlive n 67108864 (record { at = endOf ws (at + 1) 1; next = atEnd ws at n .next + classCount x (optOf id) m (hasDefault e); default = 67108864 }) =
+      count-live f h unlive 67108864 kind (record { live = true; id = id }) _ refl known live visited (class-symbols x (optOf id) m (atEnd ws at n .next) e _ refl) in
+      let said = note-at ws notes at noted h .count unlive n 67108864 refl (ready-free f) in
+      next-same _ _ _ _ (sym (said .state) ∙ counted .state) ∙ ap (atEnd ws at n .next +_) (count-named x id m (hasDefault e) (hasDefault 67108864) some-id)
+
+  pub plans-named : {g : ClassPlan} → PlanFrom ws notes at (record { next = atEnd ws at n .next; default = 67108864 }) g → Plans ws at n g
+  unfolding behind
+  plans-named {g} p =
+      let same : g .id ≡ id = opt-same (g .id) id (p .id ∙ sym known) in
+      plans f h kind live id known visited (from-named (numberOf (atEnd ws at n .default)) (λ e. some-id (sym same ∙ e)) p)

@@ -19,16 +19,17 @@ ghost use Rattle.records.specs.Place.{recordsAt, labelAt, arityAt, kidsAt, endO
 ghost use Rattle.output.specs.Overlay.{Wrote};
 ghost use Rattle.grammar.specs.Grammar.{element};
 ghost use Rattle.grammar.specs.WellFormed.{Allowed};
-ghost use Rattle.rewriting.specs.Parts.{plain, list, constructor, roleOf, bareParameters, indexed, ofParameters, isDecoratedMember, hasPlainKey, isLive};
+ghost use Rattle.rewriting.specs.Parts.{plain, list, constructor, roleOf, bareParameters, indexed, ofParameters, isDecoratedMember, hasPlainKey, idOf, hasPrivateIn, isLive};
 ghost use Rattle.class_stack.specs.Renaming.{capacity, Ready as StackReady, subs};
 ghost use Rattle.inspect.specs.Child.{optOf};
+ghost use Rattle.inspect.specs.Class.{countCalled};
 ghost use Rattle.walk_laws.specs.Rows.{visitAt};
 ghost use Rattle.walk_laws.specs.Written.{written};
 ghost use Rattle.walk_laws.specs.Slots.{RowFits};
 ghost use Rattle.walk_laws.specs.Kinds.{isElementKind};
 ghost use Rattle.walk_laws.specs.Members.{parametersWords};
 ghost use Rattle.walk_laws.specs.Calls.{symbolOf, prefixWords, nameWord, argumentWords, entries};
-ghost use Rattle.walk_laws.specs.ClassPlan.{optional, one, exportWords, ds, classWords, queueWords, queueCount, atBody, bodyAt};
+ghost use Rattle.walk_laws.specs.ClassPlan.{optional, one, exportWords, ds, classWords, queueWords, queueCount, atBody, atEnd, bodyAt};
 ghost use Rattle.counter.specs.Contract.{aroundOf, stateOf, markIn, Planned, Below, Ready, Annotated};
 ghost use Rattle.transform.specs.Nest.{nestAt};
 ghost use Rattle.transform.specs.Contract.{wordBelow, wordsOf, stateIn, hereAt, callsAt, afterAt, kidsHere, Asks, Moved, Emitted, Queues, behindWords, memberWords, takesKey};
@@ -1021,11 +1022,10 @@ fn plan(ws: &[u32], notes: &[u32], at: usize, s: Count) -> ClassPlan
 {
     let id = inspect::class_id(ws, notes, at + 1);
     let decorated = notes[at + 1] % 2 == 1;
-    let private = inspect::has_private_in_expression(ws, notes, at + 1);
+    let private = private_at(ws, notes, at + 1);
     let b = inspect::body(ws, notes, at + 1);
-    let k = inspect::children_at(ws, b);
-    let fixed = inspect::has_static(ws, notes, b + 1, k);
-    let calls = inspect::call_count(ws, notes, b + 1, k) as u32;
+    let fixed = inspect::has_static(ws, notes, b + 1, inspect::children_at(ws, b));
+    let calls = call_count_at(ws, notes, b);
     if decorated {
         if id == NONE {
             return ClassPlan {
@@ -1060,6 +1060,31 @@ fn plan(ws: &[u32], notes: &[u32], at: usize, s: Count) -> ClassPlan
         fixed,
         calls,
     }
+}
+
+// Rule 9: has the class at `at` a private-in test in a decorator? The mark of place 1 says whether the module may have one.
+fn private_at(ws: &[u32], notes: &[u32], at: usize) -> bool
+    requires { ⌜ Planned (now ws) (now notes) × (1 < length (now ws)) ⌝ }
+    ensures { λ r. ⌜ r ≡ hasPrivateIn (kidsAt (now (ws .entry)) at) ⌝ }
+{
+    if notes[1] % 2 == 0 {
+        return false;
+    }
+    inspect::has_private_in_expression(ws, notes, at)
+}
+
+// The number of decorated members in the body at b, or 0 past the end. The body's mark says whether there is one.
+fn call_count_at(ws: &[u32], notes: &[u32], b: usize) -> u32
+    requires { ⌜ (length (now ws) ≤ 4096) × Planned (now ws) (now notes) × (b < length (now ws) → labelAt (now ws) b .kind ≡ 29) ⌝ }
+    ensures { λ r. ⌜ r ≡ countCalled (kidsAt (now (ws .entry)) b) ⌝ }
+{
+    if ws.len() <= b {
+        return 0;
+    }
+    if notes[b] % 2 == 0 {
+        return 0;
+    }
+    inspect::call_count(ws, notes, b + 1, inspect::children_at(ws, b)) as u32
 }
 
 // The alias of the class of the statement at `at`, whose inner symbol is n.
@@ -1118,6 +1143,17 @@ fn plan_at(ws: &[u32], notes: &[u32], at: usize, n: u32) -> ClassPlan
     ensures { λ r. ⌜ Plans (now (ws .entry)) at n r ⌝ }
 {
     let id = inspect::class_id(ws, notes, at + 1);
+    if id != NONE {
+        return plan(
+            ws,
+            notes,
+            at,
+            Count {
+                next: next_behind(ws, notes, at, id, n),
+                default: NONE,
+            },
+        );
+    }
     let r = counter::count_records(
         ws,
         notes,
@@ -1138,6 +1174,14 @@ fn plan_at(ws: &[u32], notes: &[u32], at: usize, n: u32) -> ClassPlan
             default: r.default,
         },
     )
+}
+
+// The next fresh symbol behind the children of the same class, where it has the id `id`: the statement's note counts its symbols, rule 6's included.
+fn next_behind(ws: &[u32], notes: &[u32], at: usize, id: u32, n: u32) -> u32
+    requires { ⌜ Ready (now ws) (now notes) at n × (at < length (now ws)) × (labelAt (now ws) at .kind ≡ 4) × (isLive (takeF 1 (recordsAt (now ws) (at + 1))) ≡ true) × Annotated (now ws) (now notes) at × (optOf id ≡ idOf (kidsAt (now ws) (at + 1))) × (id ≡ 67108864 → ⊥) ⌝ }
+    ensures { λ r. ⌜ r ≡ atEnd (now (ws .entry)) at n .next ⌝ }
+{
+    n + notes[at] / 4 % 16384 - counter::class_count(ws, notes, at, id, NONE)
 }
 
 // The words in front of the class (rules 8 and 9); p is the payload of the statement.
