@@ -24,6 +24,7 @@ ghost use Rattle.class_stack.specs.Renaming.{capacity, Ready as StackReady, sub
 ghost use Rattle.inspect.specs.Child.{optOf};
 ghost use Rattle.walk_laws.specs.Rows.{visitAt};
 ghost use Rattle.walk_laws.specs.Written.{written};
+ghost use Rattle.walk_laws.specs.Still.{wordsFrom};
 ghost use Rattle.walk_laws.specs.Slots.{RowFits};
 ghost use Rattle.walk_laws.specs.Kinds.{isElementKind};
 ghost use Rattle.walk_laws.specs.Members.{parametersWords};
@@ -32,7 +33,7 @@ ghost use Rattle.walk_laws.specs.ClassPlan.{optional, one, exportWords, ds, cla
 ghost use Rattle.counter.specs.Contract.{aroundOf, stateOf, markIn, Planned, Below, Ready, Annotated};
 ghost use Rattle.transform.specs.Nest.{nestAt};
 ghost use Rattle.transform.specs.Contract.{wordBelow, wordsOf, stateIn, hereAt, callsAt, afterAt, kidsHere, Asks, Moved, Emitted, Queues, behindWords, memberWords, takesKey};
-ghost use Rattle.transform.specs.Copies.{Copies, Copied};
+ghost use Rattle.transform.specs.Copies.{Copies};
 ghost use Rattle.transform.specs.ClassWords.{scopeOf, bodyWord, frontOf, blockOf, letWords, headOf, flagsOf, nameWords, frontWords, assignWords, elementsBy, bodyBy, firstBy, assignmentBy, PlanFrom, Plans};
 
 // Where the walk stands: in the words read and the words written; the state; how many records were written.
@@ -98,6 +99,15 @@ pub fn records(
                 count: m,
             };
         }
+        let note = notes[q];
+        if note / 2 % 2 == 1 {
+            let e = (note / 65536) as usize;
+            p = copied(ws, q, e, c, out, p);
+            q = e;
+            m += 1;
+            i += 1;
+            continue;
+        }
         let r = record(
             ws,
             notes,
@@ -142,7 +152,15 @@ pub fn record(
 {
     let w = notes[at];
     if w / 2 % 2 == 1 {
-        return copied(ws, at, (w / 65536) as usize, s, c, out, pos);
+        let e = (w / 65536) as usize;
+        let p = copied(ws, at, e, c, out, pos);
+        return Went {
+            at: e,
+            pos: p,
+            next: s.next,
+            default: s.default,
+            count: 1,
+        };
     }
     let k = inspect::kind_at(ws, at);
     match k {
@@ -165,17 +183,9 @@ pub fn record(
 }
 
 // A record in which nothing changes, and which ends at e: its words under the classes around.
-fn copied(
-    ws: &[u32],
-    at: usize,
-    e: usize,
-    s: Count,
-    c: ClassStack,
-    out: &mut [u32],
-    pos: usize,
-) -> Went
+fn copied(ws: &[u32], at: usize, e: usize, c: ClassStack, out: &mut [u32], pos: usize) -> usize
     requires { ⌜ Copies (now ws) at e c pos ⌝ }
-    ensures { λ r. ⌜ Copied (now (ws .entry)) at e s c (now (out .entry)) pos (now (out .exit)) r ⌝ }
+    ensures { λ r. ⌜ Wrote (now (out .entry)) pos (wordsFrom (wordBelow c) (now (ws .entry)) at (e - at)) (now (out .exit)) r ⌝ }
 {
     let mut i = at;
     let mut p = pos;
@@ -189,13 +199,7 @@ fn copied(
         );
         i += 1;
     }
-    Went {
-        at: e,
-        pos: p,
-        next: s.next,
-        default: s.default,
-        count: 1,
-    }
+    p
 }
 
 // A module: its statements are counted again, and its 40 holds the next fresh symbol (rule 1). Both words are put in front last.
@@ -1363,11 +1367,11 @@ fn elements(
         id: g.id,
     };
     let k = inspect::children_at(ws, b);
-    let j = inspect::first_constructor(ws, notes, b + 1, k);
     if !g.decorated {
         let r = records(ws, notes, b + 1, k, a, s, c, out, pos);
         return r.pos;
     }
+    let j = inspect::first_constructor(ws, notes, b + 1, k);
     if k <= j {
         let r = records(ws, notes, b + 1, k, a, s, c, out, pos);
         return r.pos;

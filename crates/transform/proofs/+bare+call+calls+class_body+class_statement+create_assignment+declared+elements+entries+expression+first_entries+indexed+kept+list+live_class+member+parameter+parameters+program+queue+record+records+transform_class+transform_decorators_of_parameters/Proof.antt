@@ -462,7 +462,7 @@ abbrev declared-uses : ℕ → declared-lts.Claims
 declared-uses t = (class-id-reads.Asked, class-id-reads.Learnt, kind-at-reads.Asked, kind-at-reads.Learnt, payload-at-reads.Asked, payload-at-reads.Learnt, put-reads.Asked, put-reads.Learnt, records-below t, records.Post)
 
 abbrev elements-uses : ℕ → elements-lts.Claims
-elements-uses t = (children-at-reads.Asked, children-at-reads.Learnt, first-constructor-reads.Asked, first-constructor-reads.Learnt, records-below t, records.Post, member-below t, member.Post)
+elements-uses t = (children-at-reads.Asked, children-at-reads.Learnt, records-below t, records.Post, first-constructor-reads.Asked, first-constructor-reads.Learnt, member-below t, member.Post)
 
 abbrev entries-uses : ℕ → entries-lts.Claims
 entries-uses t = (children-at-reads.Asked, children-at-reads.Learnt, records-below t, records.Post, kind-at-reads.Asked, kind-at-reads.Learnt, count-records-reads.Asked, count-records-reads.Learnt, transform-decorators-of-parameters-below t, transform-decorators-of-parameters.Post)
@@ -502,6 +502,9 @@ queue-uses t = (children-at-reads.Asked, children-at-reads.Learnt, count-records
 
 abbrev record-uses : ℕ → record-lts.Claims
 record-uses t = (copied-reads.Asked, copied-reads.Learnt, kind-at-reads.Asked, kind-at-reads.Learnt, program-below t, program.Post, list-below t, list.Post, class-statement-below t, class-statement.Post, expression-below t, expression.Post, word-at-reads.Asked, word-at-reads.Learnt, is-constructor-reads.Asked, is-constructor-reads.Learnt, kept-below t, kept.Post, member-below t, member.Post)
+
+abbrev records-uses : ℕ → records-lts.Claims
+records-uses t = (copied-reads.Asked, copied-reads.Learnt, record-below t, record.Post)
 
 abbrev transform-class-uses : ℕ → transform-class-lts.Claims
 transform-class-uses t = (payload-at-reads.Asked, payload-at-reads.Learnt, class-words-reads.Asked, class-words-reads.Learnt, count-records-reads.Asked, count-records-reads.Learnt, records-below t, records.Post, class-body-below t, class-body.Post)
@@ -1015,26 +1018,26 @@ elements-children-at-requires : (t : ℕ) → elements-lts.Need-children-at-requ
 elements-children-at-requires t c κs = search needs
 
 elements-add-first-constructor : (t : ℕ) → elements-lts.Need-add-first-constructor (elements-uses t) (elements-at t) elements.Post
-elements-add-first-constructor t c = omega (arith, c .before .before .before .before .pre .1 .1, c .before .before .before .before .pre .1 .0 .ready .few)
+elements-add-first-constructor t c = omega (arith, c .before .before .before .before .before .before .pre .1 .1, c .before .before .before .before .before .before .pre .1 .0 .ready .few)
 
 elements-first-constructor-requires : (t : ℕ) → elements-lts.Need-first-constructor-requires (elements-uses t) (elements-at t) elements.Post
-elements-first-constructor-requires t c κs = c .before .before .before .before .pre .1 .0 .ready .planned .ends
+elements-first-constructor-requires t c κs = c .before .before .before .before .before .before .pre .1 .0 .ready .planned .ends
 
 elements-add-records : (t : ℕ) → elements-lts.Need-add-records (elements-uses t) (elements-at t) elements.Post
-elements-add-records t c = omega (arith, c .before .before .before .before .before .before .before .pre .1 .1, c .before .before .before .before .before .before .before .pre .1 .0 .ready .few)
+elements-add-records t c = omega (arith, c .before .before .before .before .before .before .pre .1 .1, c .before .before .before .before .before .before .pre .1 .0 .ready .few)
 
 elements-records-requires : (t : ℕ) → elements-lts.Need-records-requires (elements-uses t) (elements-at t) elements.Post
 elements-records-requires t c κs =
-    let p = c .before .before .before .before .before .before .before .before .pre .1 in
-    (omega (arith, c .before .before .before .before .before .before .before .before .pre .0, p .1), elements-asks (c .before .before .before .before .before .before .before .before .args .g) (c .before .before .before .before .before .before .before .before .args .s) (p .0) (p .1) (p .2) (c .before .before .before .before .children-at .result) (c .before .before .before .before .children-at .ensures .0) (elements-plain (c .before .before .before .before .before .before .before .before .args .g) (c .before .before .before .before .before .before .before .before .args .s) (p .0) (p .1) (p .2) (not-true _ (c .before .if1 .taken))))
+    let p = c .before .before .before .before .before .before .before .pre .1 in
+    (omega (arith, c .before .before .before .before .before .before .before .pre .0, p .1), elements-asks (c .before .before .before .before .before .before .before .args .g) (c .before .before .before .before .before .before .before .args .s) (p .0) (p .1) (p .2) (c .before .before .before .children-at .result) (c .before .before .before .children-at .ensures .0) (elements-plain (c .before .before .before .before .before .before .before .args .g) (c .before .before .before .before .before .before .before .args .s) (p .0) (p .1) (p .2) (not-true _ (c .before .if1 .taken))))
 
 elements-same-length : (t : ℕ) → elements-lts.Need-same-length (elements-uses t) (elements-at t) elements.Post
 elements-same-length t c = c .before .before .records .kept .1 .1 .1 .1 .1 .1 .1 .0
 
 elements-returns : (t : ℕ) → elements-lts.Need-returns (elements-uses t) (elements-at t) elements.Post
 elements-returns t c =
-    let p = c .before .before .before .before .before .before .before .before .before .before .before .pre .1 in
-    elements-wrote (c .before .before .before .before .before .before .before .before .before .before .before .args .g) (c .before .before .before .before .before .before .before .before .before .before .before .args .s) (p .0) (p .1) (p .2) (c .before .before .before .before .before .before .before .children-at .result) (c .before .before .before .before .before .before .before .children-at .ensures .0) (elements-plain (c .before .before .before .before .before .before .before .before .before .before .before .args .g) (c .before .before .before .before .before .before .before .before .before .before .before .args .s) (p .0) (p .1) (p .2) (not-true _ (c .before .before .before .before .if1 .taken))) (c .before .before .records .ensures)
+    let p = c .before .before .before .before .before .before .before .before .before .before .pre .1 in
+    elements-wrote (c .before .before .before .before .before .before .before .before .before .before .args .g) (c .before .before .before .before .before .before .before .before .before .before .args .s) (p .0) (p .1) (p .2) (c .before .before .before .before .before .before .children-at .result) (c .before .before .before .before .before .before .children-at .ensures .0) (elements-plain (c .before .before .before .before .before .before .before .before .before .before .args .g) (c .before .before .before .before .before .before .before .before .before .before .args .s) (p .0) (p .1) (p .2) (not-true _ (c .before .before .before .before .if1 .taken))) (c .before .before .records .ensures)
 
 elements-add-records-2 : (t : ℕ) → elements-lts.Need-add-records-2 (elements-uses t) (elements-at t) elements.Post
 elements-add-records-2 t c = omega (arith, c .before .before .before .before .before .before .before .before .pre .1 .1, c .before .before .before .before .before .before .before .before .pre .1 .0 .ready .few)
@@ -1042,8 +1045,8 @@ elements-add-records-2 t c = omega (arith, c .before .before .before .before .be
 elements-records-requires-2 : (t : ℕ) → elements-lts.Need-records-requires-2 (elements-uses t) (elements-at t) elements.Post
 elements-records-requires-2 t c κs =
     let p = c .before .before .before .before .before .before .before .before .before .pre .1 in
-    let n = no-constructor (c .before .before .before .before .before .before .before .before .before .args .ws .now) (c .before .before .before .before .before .before .before .before .before .args .b) (c .before .before .before .before .before .children-at .result) (c .before .before .before .before .first-constructor .result) (c .before .before .before .before .before .children-at .ensures .0) (c .before .before .before .before .first-constructor .ensures) (c .before .if2 .taken) in
-    (omega (arith, c .before .before .before .before .before .before .before .before .before .pre .0, p .1), elements-asks (c .before .before .before .before .before .before .before .before .before .args .g) (c .before .before .before .before .before .before .before .before .before .args .s) (p .0) (p .1) (p .2) (c .before .before .before .before .before .children-at .result) (c .before .before .before .before .before .children-at .ensures .0) (elements-none (c .before .before .before .before .before .before .before .before .before .args .g) (c .before .before .before .before .before .before .before .before .before .args .s) (p .0) (p .1) (p .2) (not-false _ (c .before .before .if1 .left)) n))
+    let n = no-constructor (c .before .before .before .before .before .before .before .before .before .args .ws .now) (c .before .before .before .before .before .before .before .before .before .args .b) (c .before .before .before .before .before .children-at .result) (c .before .before .first-constructor .result) (c .before .before .before .before .before .children-at .ensures .0) (c .before .before .first-constructor .ensures) (c .before .if2 .taken) in
+    (omega (arith, c .before .before .before .before .before .before .before .before .before .pre .0, p .1), elements-asks (c .before .before .before .before .before .before .before .before .before .args .g) (c .before .before .before .before .before .before .before .before .before .args .s) (p .0) (p .1) (p .2) (c .before .before .before .before .before .children-at .result) (c .before .before .before .before .before .children-at .ensures .0) (elements-none (c .before .before .before .before .before .before .before .before .before .args .g) (c .before .before .before .before .before .before .before .before .before .args .s) (p .0) (p .1) (p .2) (not-false _ (c .before .before .before .if1 .left)) n))
 
 elements-same-length-2 : (t : ℕ) → elements-lts.Need-same-length-2 (elements-uses t) (elements-at t) elements.Post
 elements-same-length-2 t c = c .before .before .records2 .kept .1 .1 .1 .1 .1 .1 .1 .0
@@ -1051,8 +1054,8 @@ elements-same-length-2 t c = c .before .before .records2 .kept .1 .1 .1 .1 .1 .1
 elements-returns-2 : (t : ℕ) → elements-lts.Need-returns-2 (elements-uses t) (elements-at t) elements.Post
 elements-returns-2 t c =
     let p = c .before .before .before .before .before .before .before .before .before .before .before .before .pre .1 in
-    let n = no-constructor (c .before .before .before .before .before .before .before .before .before .before .before .before .args .ws .now) (c .before .before .before .before .before .before .before .before .before .before .before .before .args .b) (c .before .before .before .before .before .before .before .before .children-at .result) (c .before .before .before .before .before .before .before .first-constructor .result) (c .before .before .before .before .before .before .before .before .children-at .ensures .0) (c .before .before .before .before .before .before .before .first-constructor .ensures) (c .before .before .before .before .if2 .taken) in
-    elements-wrote (c .before .before .before .before .before .before .before .before .before .before .before .before .args .g) (c .before .before .before .before .before .before .before .before .before .before .before .before .args .s) (p .0) (p .1) (p .2) (c .before .before .before .before .before .before .before .before .children-at .result) (c .before .before .before .before .before .before .before .before .children-at .ensures .0) (elements-none (c .before .before .before .before .before .before .before .before .before .before .before .before .args .g) (c .before .before .before .before .before .before .before .before .before .before .before .before .args .s) (p .0) (p .1) (p .2) (not-false _ (c .before .before .before .before .before .if1 .left)) n) (c .before .before .records2 .ensures)
+    let n = no-constructor (c .before .before .before .before .before .before .before .before .before .before .before .before .args .ws .now) (c .before .before .before .before .before .before .before .before .before .before .before .before .args .b) (c .before .before .before .before .before .before .before .before .children-at .result) (c .before .before .before .before .before .first-constructor .result) (c .before .before .before .before .before .before .before .before .children-at .ensures .0) (c .before .before .before .before .before .first-constructor .ensures) (c .before .before .before .before .if2 .taken) in
+    elements-wrote (c .before .before .before .before .before .before .before .before .before .before .before .before .args .g) (c .before .before .before .before .before .before .before .before .before .before .before .before .args .s) (p .0) (p .1) (p .2) (c .before .before .before .before .before .before .before .before .children-at .result) (c .before .before .before .before .before .before .before .before .children-at .ensures .0) (elements-none (c .before .before .before .before .before .before .before .before .before .before .before .before .args .g) (c .before .before .before .before .before .before .before .before .before .before .before .before .args .s) (p .0) (p .1) (p .2) (not-false _ (c .before .before .before .before .before .before .if1 .left)) n) (c .before .before .records2 .ensures)
 
 elements-add-records-3 : (t : ℕ) → elements-lts.Need-add-records-3 (elements-uses t) (elements-at t) elements.Post
 elements-add-records-3 t c = omega (arith, c .before .before .before .before .before .before .before .before .pre .1 .1, c .before .before .before .before .before .before .before .before .pre .1 .0 .ready .few)
@@ -1060,16 +1063,16 @@ elements-add-records-3 t c = omega (arith, c .before .before .before .before .be
 elements-records-requires-3 : (t : ℕ) → elements-lts.Need-records-requires-3 (elements-uses t) (elements-at t) elements.Post
 elements-records-requires-3 t c κs =
     let p = c .before .before .before .before .before .before .before .before .before .pre .1 in
-    let n = first-at (c .before .before .before .before .before .before .before .before .before .args .ws .now) (c .before .before .before .before .before .before .before .before .before .args .b) (c .before .before .before .before .before .children-at .result) (c .before .before .before .before .first-constructor .result) (c .before .before .before .before .before .children-at .ensures .0) (c .before .before .before .before .first-constructor .ensures) (c .before .if2 .left) in
-    (omega (arith, c .before .before .before .before .before .before .before .before .before .pre .0, p .1), before-asks (c .before .before .before .before .before .before .before .before .before .args .g) (c .before .before .before .before .before .before .before .before .before .args .s) (p .0) (p .1) (p .2) (not-false _ (c .before .before .if1 .left)) (c .before .before .before .before .before .children-at .result) (c .before .before .before .before .first-constructor .result) (c .before .before .before .before .before .children-at .ensures .0) n)
+    let n = first-at (c .before .before .before .before .before .before .before .before .before .args .ws .now) (c .before .before .before .before .before .before .before .before .before .args .b) (c .before .before .before .before .before .children-at .result) (c .before .before .first-constructor .result) (c .before .before .before .before .before .children-at .ensures .0) (c .before .before .first-constructor .ensures) (c .before .if2 .left) in
+    (omega (arith, c .before .before .before .before .before .before .before .before .before .pre .0, p .1), before-asks (c .before .before .before .before .before .before .before .before .before .args .g) (c .before .before .before .before .before .before .before .before .before .args .s) (p .0) (p .1) (p .2) (not-false _ (c .before .before .before .if1 .left)) (c .before .before .before .before .before .children-at .result) (c .before .before .first-constructor .result) (c .before .before .before .before .before .children-at .ensures .0) n)
 
 elements-member-requires : (t : ℕ) → elements-lts.Need-member-requires (elements-uses t) (elements-at t) elements.Post
 elements-member-requires t c κs =
     let p = c .before .before .before .before .before .before .before .before .before .before .before .before .before .pre .1 in
-    let n = first-at (c .before .before .before .before .before .before .before .before .before .before .before .before .before .args .ws .now) (c .before .before .before .before .before .before .before .before .before .before .before .before .before .args .b) (c .before .before .before .before .before .before .before .before .before .children-at .result) (c .before .before .before .before .before .before .before .before .first-constructor .result) (c .before .before .before .before .before .before .before .before .before .children-at .ensures .0) (c .before .before .before .before .before .before .before .before .first-constructor .ensures) (c .before .before .before .before .before .if2 .left) in
-    let i = constructor-inside (c .before .before .before .before .before .before .before .before .before .before .before .before .before .args .g) (c .before .before .before .before .before .before .before .before .before .before .before .before .before .args .s) (p .0) (p .1) (p .2) (not-false _ (c .before .before .before .before .before .before .if1 .left)) (c .before .before .before .before .before .before .before .before .before .children-at .result) (c .before .before .before .before .before .before .before .before .first-constructor .result) (c .before .before .before .before .before .before .before .before .before .children-at .ensures .0) n (c .before .before .before .records3 .ensures) in (
-      omega (arith, c .before .before .before .before .before .before .before .before .before .before .before .before .before .pre .0, p .1, c .before .before .before .records3 .ensures .moved .place, end-low (c .before .before .before .before .before .before .before .before .before .before .before .before .before .args .ws .now) (c .before .before .before .before .before .before .before .before .before .before .before .before .before .args .b + 1) (c .before .before .before .before .before .before .before .before .first-constructor .result)),
-      (constructor-asks (c .before .before .before .before .before .before .before .before .before .before .before .before .before .args .g) (c .before .before .before .before .before .before .before .before .before .before .before .before .before .args .s) (p .0) (p .1) (p .2) (not-false _ (c .before .before .before .before .before .before .if1 .left)) (c .before .before .before .before .before .before .before .before .before .children-at .result) (c .before .before .before .before .before .before .before .before .first-constructor .result) (c .before .before .before .before .before .before .before .before .before .children-at .ensures .0) n (c .before .before .before .records3 .ensures), i .0, i .1),
+    let n = first-at (c .before .before .before .before .before .before .before .before .before .before .before .before .before .args .ws .now) (c .before .before .before .before .before .before .before .before .before .before .before .before .before .args .b) (c .before .before .before .before .before .before .before .before .before .children-at .result) (c .before .before .before .before .before .before .first-constructor .result) (c .before .before .before .before .before .before .before .before .before .children-at .ensures .0) (c .before .before .before .before .before .before .first-constructor .ensures) (c .before .before .before .before .before .if2 .left) in
+    let i = constructor-inside (c .before .before .before .before .before .before .before .before .before .before .before .before .before .args .g) (c .before .before .before .before .before .before .before .before .before .before .before .before .before .args .s) (p .0) (p .1) (p .2) (not-false _ (c .before .before .before .before .before .before .before .if1 .left)) (c .before .before .before .before .before .before .before .before .before .children-at .result) (c .before .before .before .before .before .before .first-constructor .result) (c .before .before .before .before .before .before .before .before .before .children-at .ensures .0) n (c .before .before .before .records3 .ensures) in (
+      omega (arith, c .before .before .before .before .before .before .before .before .before .before .before .before .before .pre .0, p .1, c .before .before .before .records3 .ensures .moved .place, end-low (c .before .before .before .before .before .before .before .before .before .before .before .before .before .args .ws .now) (c .before .before .before .before .before .before .before .before .before .before .before .before .before .args .b + 1) (c .before .before .before .before .before .before .first-constructor .result)),
+      (constructor-asks (c .before .before .before .before .before .before .before .before .before .before .before .before .before .args .g) (c .before .before .before .before .before .before .before .before .before .before .before .before .before .args .s) (p .0) (p .1) (p .2) (not-false _ (c .before .before .before .before .before .before .before .if1 .left)) (c .before .before .before .before .before .before .before .before .before .children-at .result) (c .before .before .before .before .before .before .first-constructor .result) (c .before .before .before .before .before .before .before .before .before .children-at .ensures .0) n (c .before .before .before .records3 .ensures), i .0, i .1),
     )
 
 elements-sub-records : (t : ℕ) → elements-lts.Need-sub-records (elements-uses t) (elements-at t) elements.Post
@@ -1081,9 +1084,9 @@ elements-sub-records-2 t c = omega (arith, c .before .before .before .before .be
 elements-records-requires-4 : (t : ℕ) → elements-lts.Need-records-requires-4 (elements-uses t) (elements-at t) elements.Post
 elements-records-requires-4 t c κs =
     let p = c .before .before .before .before .before .before .before .before .before .before .before .before .before .before .before .before .before .pre .1 in
-    let n = first-at (c .before .before .before .before .before .before .before .before .before .before .before .before .before .before .before .before .before .args .ws .now) (c .before .before .before .before .before .before .before .before .before .before .before .before .before .before .before .before .before .args .b) (c .before .before .before .before .before .before .before .before .before .before .before .before .before .children-at .result) (c .before .before .before .before .before .before .before .before .before .before .before .before .first-constructor .result) (c .before .before .before .before .before .before .before .before .before .before .before .before .before .children-at .ensures .0) (c .before .before .before .before .before .before .before .before .before .before .before .before .first-constructor .ensures) (c .before .before .before .before .before .before .before .before .before .if2 .left) in (
-      omega (arith, c .before .before .before .before .before .before .before .before .before .before .before .before .before .before .before .before .before .pre .0, p .1, c .before .before .before .before .before .before .before .records3 .ensures .moved .place, end-low (c .before .before .before .before .before .before .before .before .before .before .before .before .before .before .before .before .before .args .ws .now) (c .before .before .before .before .before .before .before .before .before .before .before .before .before .before .before .before .before .args .b + 1) (c .before .before .before .before .before .before .before .before .before .before .before .before .first-constructor .result), c .before .before .before .member .ensures .0 .place, end-low (c .before .before .before .before .before .before .before .before .before .before .before .before .before .before .before .before .before .args .ws .now) (c .before .before .before .before .before .before .before .records3 .result .at) 1),
-      behind-asks (c .before .before .before .before .before .before .before .before .before .before .before .before .before .before .before .before .before .args .g) (c .before .before .before .before .before .before .before .before .before .before .before .before .before .before .before .before .before .args .s) (p .0) (p .1) (p .2) (not-false _ (c .before .before .before .before .before .before .before .before .before .before .if1 .left)) (c .before .before .before .before .before .before .before .before .before .before .before .before .before .children-at .result) (c .before .before .before .before .before .before .before .before .before .before .before .before .first-constructor .result) (c .before .before .before .before .before .before .before .before .before .before .before .before .before .children-at .ensures .0) n (c .before .before .before .before .before .before .before .records3 .ensures) (c .before .before .before .member .ensures .0),
+    let n = first-at (c .before .before .before .before .before .before .before .before .before .before .before .before .before .before .before .before .before .args .ws .now) (c .before .before .before .before .before .before .before .before .before .before .before .before .before .before .before .before .before .args .b) (c .before .before .before .before .before .before .before .before .before .before .before .before .before .children-at .result) (c .before .before .before .before .before .before .before .before .before .before .first-constructor .result) (c .before .before .before .before .before .before .before .before .before .before .before .before .before .children-at .ensures .0) (c .before .before .before .before .before .before .before .before .before .before .first-constructor .ensures) (c .before .before .before .before .before .before .before .before .before .if2 .left) in (
+      omega (arith, c .before .before .before .before .before .before .before .before .before .before .before .before .before .before .before .before .before .pre .0, p .1, c .before .before .before .before .before .before .before .records3 .ensures .moved .place, end-low (c .before .before .before .before .before .before .before .before .before .before .before .before .before .before .before .before .before .args .ws .now) (c .before .before .before .before .before .before .before .before .before .before .before .before .before .before .before .before .before .args .b + 1) (c .before .before .before .before .before .before .before .before .before .before .first-constructor .result), c .before .before .before .member .ensures .0 .place, end-low (c .before .before .before .before .before .before .before .before .before .before .before .before .before .before .before .before .before .args .ws .now) (c .before .before .before .before .before .before .before .records3 .result .at) 1),
+      behind-asks (c .before .before .before .before .before .before .before .before .before .before .before .before .before .before .before .before .before .args .g) (c .before .before .before .before .before .before .before .before .before .before .before .before .before .before .before .before .before .args .s) (p .0) (p .1) (p .2) (not-false _ (c .before .before .before .before .before .before .before .before .before .before .before .if1 .left)) (c .before .before .before .before .before .before .before .before .before .before .before .before .before .children-at .result) (c .before .before .before .before .before .before .before .before .before .before .first-constructor .result) (c .before .before .before .before .before .before .before .before .before .before .before .before .before .children-at .ensures .0) n (c .before .before .before .before .before .before .before .records3 .ensures) (c .before .before .before .member .ensures .0),
     )
 
 elements-same-length-3 : (t : ℕ) → elements-lts.Need-same-length-3 (elements-uses t) (elements-at t) elements.Post
@@ -1092,8 +1095,8 @@ elements-same-length-3 t c = c .before .before .records4 .kept .1 .1 .1 .1 .1 .1
 elements-returns-3 : (t : ℕ) → elements-lts.Need-returns-3 (elements-uses t) (elements-at t) elements.Post
 elements-returns-3 t c =
     let p = c .before .before .before .before .before .before .before .before .before .before .before .before .before .before .before .before .before .before .before .before .pre .1 in
-    let n = first-at (c .before .before .before .before .before .before .before .before .before .before .before .before .before .before .before .before .before .before .before .before .args .ws .now) (c .before .before .before .before .before .before .before .before .before .before .before .before .before .before .before .before .before .before .before .before .args .b) (c .before .before .before .before .before .before .before .before .before .before .before .before .before .before .before .before .children-at .result) (c .before .before .before .before .before .before .before .before .before .before .before .before .before .before .before .first-constructor .result) (c .before .before .before .before .before .before .before .before .before .before .before .before .before .before .before .before .children-at .ensures .0) (c .before .before .before .before .before .before .before .before .before .before .before .before .before .before .before .first-constructor .ensures) (c .before .before .before .before .before .before .before .before .before .before .before .before .if2 .left) in
-    bare-wrote (c .before .before .before .before .before .before .before .before .before .before .before .before .before .before .before .before .before .before .before .before .args .g) (c .before .before .before .before .before .before .before .before .before .before .before .before .before .before .before .before .before .before .before .before .args .s) (p .0) (p .1) (p .2) (not-false _ (c .before .before .before .before .before .before .before .before .before .before .before .before .before .if1 .left)) (c .before .before .before .before .before .before .before .before .before .before .before .before .before .before .before .before .children-at .result) (c .before .before .before .before .before .before .before .before .before .before .before .before .before .before .before .first-constructor .result) (c .before .before .before .before .before .before .before .before .before .before .before .before .before .before .before .before .children-at .ensures .0) n (c .before .before .before .before .before .before .before .before .before .before .records3 .ensures) (c .before .before .before .before .before .before .member .ensures .0) (c .before .before .records4 .ensures)
+    let n = first-at (c .before .before .before .before .before .before .before .before .before .before .before .before .before .before .before .before .before .before .before .before .args .ws .now) (c .before .before .before .before .before .before .before .before .before .before .before .before .before .before .before .before .before .before .before .before .args .b) (c .before .before .before .before .before .before .before .before .before .before .before .before .before .before .before .before .children-at .result) (c .before .before .before .before .before .before .before .before .before .before .before .before .before .first-constructor .result) (c .before .before .before .before .before .before .before .before .before .before .before .before .before .before .before .before .children-at .ensures .0) (c .before .before .before .before .before .before .before .before .before .before .before .before .before .first-constructor .ensures) (c .before .before .before .before .before .before .before .before .before .before .before .before .if2 .left) in
+    bare-wrote (c .before .before .before .before .before .before .before .before .before .before .before .before .before .before .before .before .before .before .before .before .args .g) (c .before .before .before .before .before .before .before .before .before .before .before .before .before .before .before .before .before .before .before .before .args .s) (p .0) (p .1) (p .2) (not-false _ (c .before .before .before .before .before .before .before .before .before .before .before .before .before .before .if1 .left)) (c .before .before .before .before .before .before .before .before .before .before .before .before .before .before .before .before .children-at .result) (c .before .before .before .before .before .before .before .before .before .before .before .before .before .first-constructor .result) (c .before .before .before .before .before .before .before .before .before .before .before .before .before .before .before .before .children-at .ensures .0) n (c .before .before .before .before .before .before .before .before .before .before .records3 .ensures) (c .before .before .before .before .before .before .member .ensures .0) (c .before .before .records4 .ensures)
 
 entries-add-records : (t : ℕ) → entries-lts.Need-add-records (entries-uses t) (entries-at t) entries.Post
 entries-add-records t c = omega (arith, c .before .before .before .pre .1 .1, c .before .before .before .pre .1 .0 .ready .few)
@@ -1832,8 +1835,8 @@ record-mul-w t c = omega (arith, c .before .before .before .pre .1 .1, c .before
 record-shared-slice-read-w : (t : ℕ) → record-lts.Need-shared-slice-read-w (record-uses t) (record-at t) record.Post
 record-shared-slice-read-w t c = omega (arith, c .before .before .before .before .pre .1 .0 .ready .planned .ends .long, c .before .before .before .before .pre .1 .1)
 
-record-cast-copied : (t : ℕ) → record-lts.Need-cast-copied (record-uses t) (record-at t) record.Post
-record-cast-copied t c =
+record-cast-e : (t : ℕ) → record-lts.Need-cast-e (record-uses t) (record-at t) record.Post
+record-cast-e t c =
     let g = c .before .before .before .before .before .args in
     let f = c .before .before .before .before .before .pre .1 in
     omega (arith, note-at _ _ _ (f .0 .noted) (f .1) .place, end-high (g .ws .now) (g .at) 1, f .0 .ready .few, f .1)
@@ -1845,7 +1848,7 @@ record-copied-requires t c κs =
     copies (g .a) (g .s) (f .0) (f .1) _ (note-at _ _ _ (f .0 .noted) (f .1)) (eq-eqb _ 1 (c .before .if1 .taken))
 
 record-same-length : (t : ℕ) → record-lts.Need-same-length (record-uses t) (record-at t) record.Post
-record-same-length t c = c .before .before .copied .kept .1 .1 .1 .1 .1 .0
+record-same-length t c = c .before .before .copied .kept .1 .1 .1 .1 .0
 
 record-returns : (t : ℕ) → record-lts.Need-returns (record-uses t) (record-at t) record.Post
 record-returns t c =
@@ -2004,122 +2007,93 @@ records-Inv-loop ws notes at k a c out₀ pos q₀ i₀ p₀ n₀ d₀ m₀ out 
 abbrev records-μ-loop : records-lts.MeasureT-loop
 records-μ-loop ws notes at k a c out₀ pos q₀ i₀ p₀ n₀ d₀ m₀ out q i p n d m = k - i
 
-records-loop-holds :
-    (t : ℕ) →
-    records-lts.Need-loop-holds
-    (record-below t, record.Post)
-    (records-at t)
-    records.Post
-    records-Inv-loop
-    records-μ-loop
+records-loop-holds : (t : ℕ) → records-lts.Need-loop-holds (records-uses t) (records-at t) records.Post records-Inv-loop records-μ-loop
 records-loop-holds t c =
     let g = c .before .before .before .args in
     (c .before .before .before .pre .1 .ready .inside, omega arith, refl, emit-none (g .ws .now) (g .at) (g .a) (g .s) (g .c) (g .out .now) (g .pos))
 
-records-same-length :
-    (t : ℕ) →
-    records-lts.Need-same-length
-    (record-below t, record.Post)
-    (records-at t)
-    records.Post
-    records-Inv-loop
-    records-μ-loop
+records-same-length : (t : ℕ) → records-lts.Need-same-length (records-uses t) (records-at t) records.Post records-Inv-loop records-μ-loop
 records-same-length t c = c .before .before .loop .inv .2
 
-records-returns :
-    (t : ℕ) →
-    records-lts.Need-returns
-    (record-below t, record.Post)
-    (records-at t)
-    records.Post
-    records-Inv-loop
-    records-μ-loop
+records-returns : (t : ℕ) → records-lts.Need-returns (records-uses t) (records-at t) records.Post records-Inv-loop records-μ-loop
 records-returns t c =
     let g = c .before .before .before .before .before .before .args in
     let l = c .before .before .loop in
     emit-rest (g .ws .now) (g .at) (g .a) (g .s) (g .c) (l .i) (g .k) (l .q) (l .p) (l .n) (l .d) (l .m) (l .inv .1) (l .inv .3) (c .if1 .taken)
 
-records-record-requires :
-    (t : ℕ) →
-    records-lts.Need-record-requires
-    (record-below t, record.Post)
-    (records-at t)
-    records.Post
-    records-Inv-loop
-    records-μ-loop
-records-record-requires t c κs =
-    let g = c .before .before .before .before .before .before .before .args in
-    let l = c .before .before .before .loop in
-    (omega (arith, c .before .before .before .before .before .before .before .pre .0, l .inv .3 .moved .place, end-low (g .ws .now) (g .at) (l .i), c .before .if1 .left), (asks-next (g .a) (g .s) (c .before .before .before .before .before .before .before .pre .1) (l .i) (l .q) (l .p) (l .n) (l .d) (l .m) refl (c .before .before .loop-test .taken) (l .inv .3), c .before .if1 .left))
+records-mul-note : (t : ℕ) → records-lts.Need-mul-note (records-uses t) (records-at t) records.Post records-Inv-loop records-μ-loop
+records-mul-note t c = omega (arith, c .if1 .left, c .before .before .before .before .before .before .pre .1 .ready .few)
 
-records-add-m :
-    (t : ℕ) →
-    records-lts.Need-add-m
-    (record-below t, record.Post)
-    (records-at t)
-    records.Post
-    records-Inv-loop
-    records-μ-loop
+records-shared-slice-read-note : (t : ℕ) → records-lts.Need-shared-slice-read-note (records-uses t) (records-at t) records.Post records-Inv-loop records-μ-loop
+records-shared-slice-read-note t c = omega (arith, c .before .if1 .left, c .before .before .before .before .before .before .before .pre .1 .ready .planned .ends .long)
+
+records-cast-e : (t : ℕ) → records-lts.Need-cast-e (records-uses t) (records-at t) records.Post records-Inv-loop records-μ-loop
+records-cast-e t c =
+    let g = c .before .before .before .before .before .before .before .before .args in
+    let l = c .before .before .before .before .loop in
+    let f = asks-next (g .a) (g .s) (c .before .before .before .before .before .before .before .before .pre .1) (l .i) (l .q) (l .p) (l .n) (l .d) (l .m) refl (c .before .before .before .loop-test .taken) (l .inv .3) in
+    omega (arith, note-at _ _ _ (f .noted) (c .before .before .if1 .left) .place, end-high (g .ws .now) (l .q) 1, f .ready .few, f .ready .inside)
+
+records-copied-requires : (t : ℕ) → records-lts.Need-copied-requires (records-uses t) (records-at t) records.Post records-Inv-loop records-μ-loop
+records-copied-requires t c κs =
+    let g = c .before .before .before .before .before .before .before .before .before .args in
+    let l = c .before .before .before .before .before .loop in
+    let f = asks-next (g .a) (g .s) (c .before .before .before .before .before .before .before .before .before .pre .1) (l .i) (l .q) (l .p) (l .n) (l .d) (l .m) refl (c .before .before .before .before .loop-test .taken) (l .inv .3) in
+    copies (g .a) (record { next = l .n; default = l .d }) f (c .before .before .before .if1 .left) _ (note-at _ _ _ (f .noted) (c .before .before .before .if1 .left)) (eq-eqb _ 1 (c .before .if2 .taken))
+
+records-add-m : (t : ℕ) → records-lts.Need-add-m (records-uses t) (records-at t) records.Post records-Inv-loop records-μ-loop
 records-add-m t c =
-    let g = c .before .before .before .before .before .before .before .before .before .before .before .args in
-    let l = c .before .before .before .before .before .before .before .loop in
-    let y = c .before .before .before .«record» .ensures in
-    let f = c .before .before .before .before .before .before .before .before .before .before .before .pre .1 in
-    let z = next-size (g .a) (g .s) f (l .i) (l .q) (l .p) (l .n) (l .d) (l .m) refl (c .before .before .before .before .before .before .loop-test .taken) (l .inv .3) in
-    omega (arith, z, y .number, l .inv .3 .number, l .inv .3 .moved .wrote .end, length-words (g .c) (hereAt (g .ws .now) (g .at) (l .i) (g .a) (g .s)), count-size (hereAt (g .ws .now) (g .at) (l .i) (g .a) (g .s)), count-size (hereAt (g .ws .now) (l .q) 1 (g .a) (record { next = l .n; default = l .d })))
+    let g = c .before .before .before .before .before .before .before .before .before .before .before .before .args in
+    let l = c .before .before .before .before .before .before .before .before .loop in
+    let z = next-size (g .a) (g .s) (c .before .before .before .before .before .before .before .before .before .before .before .before .pre .1) (l .i) (l .q) (l .p) (l .n) (l .d) (l .m) refl (c .before .before .before .before .before .before .before .loop-test .taken) (l .inv .3) in
+    omega (arith, z, l .inv .3 .number, l .inv .3 .moved .wrote .end, length-words (g .c) (hereAt (g .ws .now) (g .at) (l .i) (g .a) (g .s)), count-size (hereAt (g .ws .now) (g .at) (l .i) (g .a) (g .s)))
 
-records-add-i :
-    (t : ℕ) →
-    records-lts.Need-add-i
-    (record-below t, record.Post)
-    (records-at t)
-    records.Post
-    records-Inv-loop
-    records-μ-loop
+records-add-i : (t : ℕ) → records-lts.Need-add-i (records-uses t) (records-at t) records.Post records-Inv-loop records-μ-loop
 records-add-i t c = omega arith
 
-records-loop-less :
-    (t : ℕ) →
-    records-lts.Need-loop-less
-    (record-below t, record.Post)
-    (records-at t)
-    records.Post
-    records-Inv-loop
-    records-μ-loop
+records-loop-less : (t : ℕ) → records-lts.Need-loop-less (records-uses t) (records-at t) records.Post records-Inv-loop records-μ-loop
 records-loop-less t c = omega arith
 
-records-loop-again :
-    (t : ℕ) →
-    records-lts.Need-loop-again
-    (record-below t, record.Post)
-    (records-at t)
-    records.Post
-    records-Inv-loop
-    records-μ-loop
+records-loop-again : (t : ℕ) → records-lts.Need-loop-again (records-uses t) (records-at t) records.Post records-Inv-loop records-μ-loop
 records-loop-again t c =
-    let g = c .before .before .before .before .before .before .before .before .before .before .before .args in
-    let l = c .before .before .before .before .before .before .before .loop in
+    let g = c .before .before .before .before .before .before .before .before .before .before .before .before .args in
+    let l = c .before .before .before .before .before .before .before .before .loop in
+    let f = asks-next (g .a) (g .s) (c .before .before .before .before .before .before .before .before .before .before .before .before .pre .1) (l .i) (l .q) (l .p) (l .n) (l .d) (l .m) refl (c .before .before .before .before .before .before .before .loop-test .taken) (l .inv .3) in
+    let y = copied-emits (g .a) (record { next = l .n; default = l .d }) f (c .before .before .before .before .before .before .if1 .left) _ (note-at _ _ _ (f .noted) (c .before .before .before .before .before .before .if1 .left)) (eq-eqb _ 1 (c .before .before .before .before .if2 .taken)) (c .before .before .copied .ensures) in
+    (emit-inside (g .ws .now) (l .q) (g .a) (record { next = l .n; default = l .d }) (g .c) 1 y (l .inv .0), omega arith, c .before .before .copied .kept .1 .1 .1 .1 .0 ∙ l .inv .2, emit-add (g .ws .now) (g .at) (g .a) (g .s) (g .c) (l .i) 1 (l .q) (l .p) (l .n) (l .d) (l .m) (l .inv .3) y)
+
+records-record-requires : (t : ℕ) → records-lts.Need-record-requires (records-uses t) (records-at t) records.Post records-Inv-loop records-μ-loop
+records-record-requires t c κs =
+    let g = c .before .before .before .before .before .before .before .before .before .args in
+    let l = c .before .before .before .before .before .loop in
+    (omega (arith, c .before .before .before .before .before .before .before .before .before .pre .0, l .inv .3 .moved .place, end-low (g .ws .now) (g .at) (l .i), c .before .before .before .if1 .left), (asks-next (g .a) (g .s) (c .before .before .before .before .before .before .before .before .before .pre .1) (l .i) (l .q) (l .p) (l .n) (l .d) (l .m) refl (c .before .before .before .before .loop-test .taken) (l .inv .3), c .before .before .before .if1 .left))
+
+records-add-m-2 : (t : ℕ) → records-lts.Need-add-m-2 (records-uses t) (records-at t) records.Post records-Inv-loop records-μ-loop
+records-add-m-2 t c =
+    let g = c .before .before .before .before .before .before .before .before .before .before .before .before .before .args in
+    let l = c .before .before .before .before .before .before .before .before .before .loop in
+    let y = c .before .before .before .«record» .ensures in
+    let f = c .before .before .before .before .before .before .before .before .before .before .before .before .before .pre .1 in
+    let z = next-size (g .a) (g .s) f (l .i) (l .q) (l .p) (l .n) (l .d) (l .m) refl (c .before .before .before .before .before .before .before .before .loop-test .taken) (l .inv .3) in
+    omega (arith, z, y .number, l .inv .3 .number, l .inv .3 .moved .wrote .end, length-words (g .c) (hereAt (g .ws .now) (g .at) (l .i) (g .a) (g .s)), count-size (hereAt (g .ws .now) (g .at) (l .i) (g .a) (g .s)), count-size (hereAt (g .ws .now) (l .q) 1 (g .a) (record { next = l .n; default = l .d })))
+
+records-add-i-2 : (t : ℕ) → records-lts.Need-add-i-2 (records-uses t) (records-at t) records.Post records-Inv-loop records-μ-loop
+records-add-i-2 t c = omega arith
+
+records-loop-less-2 : (t : ℕ) → records-lts.Need-loop-less-2 (records-uses t) (records-at t) records.Post records-Inv-loop records-μ-loop
+records-loop-less-2 t c = omega arith
+
+records-loop-again-2 : (t : ℕ) → records-lts.Need-loop-again-2 (records-uses t) (records-at t) records.Post records-Inv-loop records-μ-loop
+records-loop-again-2 t c =
+    let g = c .before .before .before .before .before .before .before .before .before .before .before .before .before .args in
+    let l = c .before .before .before .before .before .before .before .before .before .loop in
     let y = c .before .before .before .«record» .ensures in
     (emit-inside (g .ws .now) (l .q) (g .a) (record { next = l .n; default = l .d }) (g .c) 1 y (l .inv .0), omega arith, c .before .before .before .«record» .kept .1 .1 .1 .1 .1 .1 .0 ∙ l .inv .2, emit-add (g .ws .now) (g .at) (g .a) (g .s) (g .c) (l .i) 1 (l .q) (l .p) (l .n) (l .d) (l .m) (l .inv .3) y)
 
-records-same-length-2 :
-    (t : ℕ) →
-    records-lts.Need-same-length-2
-    (record-below t, record.Post)
-    (records-at t)
-    records.Post
-    records-Inv-loop
-    records-μ-loop
+records-same-length-2 : (t : ℕ) → records-lts.Need-same-length-2 (records-uses t) (records-at t) records.Post records-Inv-loop records-μ-loop
 records-same-length-2 t c = c .before .loop .inv .2
 
-records-returns-2 :
-    (t : ℕ) →
-    records-lts.Need-returns-2
-    (record-below t, record.Post)
-    (records-at t)
-    records.Post
-    records-Inv-loop
-    records-μ-loop
+records-returns-2 : (t : ℕ) → records-lts.Need-returns-2 (records-uses t) (records-at t) records.Post records-Inv-loop records-μ-loop
 records-returns-2 t c =
     let g = c .before .before .before .before .before .args in
     let l = c .before .loop in
@@ -2503,12 +2477,12 @@ pub +bare+call+calls+class-body+class-statement+create-assignment+declared+eleme
     (λ t. elements-lts.spec (elements-uses t) (elements-at t)
     elements.Post
     (elements-children-at-requires t)
-    (elements-add-first-constructor t)
-    (elements-first-constructor-requires t)
     (elements-add-records t)
     (elements-records-requires t)
     (elements-same-length t)
     (elements-returns t)
+    (elements-add-first-constructor t)
+    (elements-first-constructor-requires t)
     (elements-add-records-2 t)
     (elements-records-requires-2 t)
     (elements-same-length-2 t)
@@ -2695,7 +2669,7 @@ pub +bare+call+calls+class-body+class-statement+create-assignment+declared+eleme
     record.Post
     (record-mul-w t)
     (record-shared-slice-read-w t)
-    (record-cast-copied t)
+    (record-cast-e t)
     (record-copied-requires t)
     (record-same-length t)
     (record-returns t)
@@ -2735,20 +2709,26 @@ pub +bare+call+calls+class-body+class-statement+create-assignment+declared+eleme
     (record-returns-11 t)
     (record-same-length-12 t)
     (record-returns-12 t))
-    (λ t. records-lts.spec
-    (record-below t, record.Post)
-    (records-at t)
+    (λ t. records-lts.spec (records-uses t) (records-at t)
     records.Post
     records-Inv-loop
     records-μ-loop
     (records-loop-holds t)
     (records-same-length t)
     (records-returns t)
-    (records-record-requires t)
+    (records-mul-note t)
+    (records-shared-slice-read-note t)
+    (records-cast-e t)
+    (records-copied-requires t)
     (records-add-m t)
     (records-add-i t)
     (records-loop-less t)
     (records-loop-again t)
+    (records-record-requires t)
+    (records-add-m-2 t)
+    (records-add-i-2 t)
+    (records-loop-less-2 t)
+    (records-loop-again-2 t)
     (records-same-length-2 t)
     (records-returns-2 t))
     (λ t. transform-class-lts.spec (transform-class-uses t) (transform-class-at t)
