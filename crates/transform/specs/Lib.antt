@@ -5,6 +5,7 @@ pub mod ClassWords
 pub mod Leaves
 pub mod Marks
 pub mod Plans
+pub mod Plain
 pub mod Steps
 pub mod StepsClasses
 pub mod Copies

@@ -17,8 +17,8 @@ ghost use Rattle.records.specs.Label.{is, bit, _∶_};
 ghost use Rattle.records.specs.Ends.{Ends};
 ghost use Rattle.records.specs.Place.{recordsAt, labelAt, arityAt, kidsAt, endOf};
 ghost use Rattle.output.specs.Overlay.{Wrote};
-ghost use Rattle.grammar.specs.Grammar.{element};
-ghost use Rattle.grammar.specs.WellFormed.{Allowed};
+ghost use Rattle.grammar.specs.Grammar.{element, module′};
+ghost use Rattle.grammar.specs.WellFormed.{Allowed, Fits};
 ghost use Rattle.rewriting.specs.Parts.{plain, list, constructor, roleOf, bareParameters, indexed, ofParameters, isDecoratedMember, hasPlainKey, isLive};
 ghost use Rattle.class_stack.specs.Renaming.{capacity, Ready as StackReady, subs};
 ghost use Rattle.inspect.specs.Child.{optOf};
@@ -34,6 +34,7 @@ ghost use Rattle.counter.specs.Contract.{aroundOf, stateOf, markIn, Planned, Be
 ghost use Rattle.transform.specs.Nest.{nestAt};
 ghost use Rattle.transform.specs.Contract.{wordBelow, wordsOf, stateIn, hereAt, callsAt, afterAt, kidsHere, Asks, Moved, Emitted, Queues, behindWords, memberWords, takesKey};
 ghost use Rattle.transform.specs.Copies.{Copies};
+ghost use Rattle.transform.specs.Plain.{isPlain};
 ghost use Rattle.transform.specs.ClassWords.{scopeOf, bodyWord, frontOf, blockOf, letWords, headOf, flagsOf, nameWords, frontWords, assignWords, elementsBy, bodyBy, firstBy, assignmentBy, PlanFrom, Plans};
 
 // Where the walk stands: in the words read and the words written; the state; how many records were written.
@@ -375,23 +376,39 @@ fn class_statement(
     ensures { λ r. ⌜ Emitted (now (ws .entry)) at 1 a s c (now (out .entry)) pos (now (out .exit)) r ⌝ }
 {
     if inspect::is_live(ws, at + 1) {
+        if is_plain(ws, notes, at) {
+            return plain(ws, notes, at, a, true, s, c, out, pos);
+        }
         return live_class(ws, notes, at, a, s, c, out, pos);
     }
-    declared(ws, notes, at, a, s, c, out, pos)
+    plain(ws, notes, at, a, false, s, c, out, pos)
 }
 
-// A class statement that is declare.
-fn declared(
+// Is neither the class of the statement at `at` decorated, nor a member of it?
+fn is_plain(ws: &[u32], notes: &[u32], at: usize) -> bool
+    requires { ⌜ Planned (now ws) (now notes) × Fits (module′ ∷ []) (recordsAt (now ws) 0) × (at < length (now ws)) × (labelAt (now ws) at .kind ≡ 4) ⌝ }
+    ensures { λ r. ⌜ r ≡ isPlain (kidsAt (now (ws .entry)) (at + 1)) ⌝ }
+{
+    if notes[at + 1] % 2 == 1 {
+        return false;
+    }
+    let b = inspect::body(ws, notes, at + 1);
+    notes[b] % 2 != 1
+}
+
+// A class statement that stays one: its class is declare, or plain.
+fn plain(
     ws: &[u32],
     notes: &[u32],
     at: usize,
     a: Scope,
+    live: bool,
     s: Count,
     c: ClassStack,
     out: &mut [u32],
     pos: usize,
 ) -> Went
-    requires { ⌜ Asks (now ws) (now notes) at 1 (s .next) c pos (size (hereAt (now ws) at 1 a s)) × (at < length (now ws)) × (labelAt (now ws) at .kind ≡ 4) × (isLive (takeF 1 (recordsAt (now ws) (at + 1))) ≡ false) ⌝ }
+    requires { ⌜ Asks (now ws) (now notes) at 1 (s .next) c pos (size (hereAt (now ws) at 1 a s)) × (at < length (now ws)) × (labelAt (now ws) at .kind ≡ 4) × (isLive (takeF 1 (recordsAt (now ws) (at + 1))) ≡ live) × (live ≡ true → isPlain (kidsAt (now ws) (at + 1)) ≡ true) ⌝ }
     ensures { λ r. ⌜ Emitted (now (ws .entry)) at 1 a s c (now (out .entry)) pos (now (out .exit)) r ⌝ }
 {
     let id = inspect::class_id(ws, notes, at + 1);
@@ -407,7 +424,7 @@ fn declared(
         notes,
         at + 1,
         1,
-        Scope { live: false, id },
+        Scope { live, id },
         Count {
             next: s.next,
             default: NONE,
