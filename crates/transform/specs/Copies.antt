@@ -12,11 +12,10 @@ use Rattle.class_stack.specs.Renaming.{Ready as StackReady}
 use Rattle.class_stack.specs.declared.ClassStack.{ClassStack}
 use Rattle.walk_laws.specs.Written.{written}
 use Rattle.walk_laws.specs.Still.{changes, wordsFrom, written-row, from-first, from-none, still-here, still-after}
-use Rattle.counter.specs.Contract.{aroundOf, stateOf, stillIn, Noted}
+use Rattle.counter.specs.Contract.{aroundOf, stillIn, Noted}
 use Rattle.counter.specs.declared.Scope.{Scope}
 use Rattle.counter.specs.declared.Count.{Count}
 use Rattle.transform.specs.Contract.{wordBelow, wordsOf, stateIn, hereAt, afterAt, Asks, Emitted}
-use Rattle.transform.specs.declared.Went.{Went}
 
 -- what the walker that copies asks: a place and an end behind it, and room for the words between them
 pub record Copies (ws : List ℕ) (at e : ℕ) (c : ClassStack) (pos : ℕ) : Type 0 where
@@ -25,14 +24,6 @@ pub record Copies (ws : List ℕ) (at e : ℕ) (c : ClassStack) (pos : ℕ) : Ty
   pub inside : e ≤ length ws
   pub few : length ws ≤ 4096
   pub fit : pos + (e - at) < 67108864
-
--- what it leaves: those words, and the state as it was
-pub record Copied (ws : List ℕ) (at e : ℕ) (s : Count) (c : ClassStack) (o : List ℕ) (pos : ℕ) (o′ : List ℕ) (r : Went) : Type 0 where
-  pub wrote : Wrote o pos (wordsFrom (wordBelow c) ws at (e - at)) o′ (r .pos)
-  pub place : r .at ≡ e
-  pub next : r .next ≡ s .next
-  pub default : r .default ≡ s .default
-  pub one : r .count ≡ 1
 
 -- ---- the loop: the words up to i are written
 
@@ -88,18 +79,17 @@ module _ {ws notes : List ℕ} {at : ℕ} {c : ClassStack} {pos : ℕ} (a : Scop
       sized : endOf ws at 1 ≡ at + size (takeF 1 (recordsAt ws at))
       sized = unfold endOf in refl
 
-  pub copied-emits : {o o′ : List ℕ} {r : Went} → Copied ws at (w / 65536) s c o pos o′ r → Emitted ws at 1 a s c o pos o′ r
-  copied-emits {o} {o′} {r} g = record {
+  -- once they are written the record is: it is one, and the state behind it is that in front
+  pub copied-emits : {o o′ : List ℕ} {p : ℕ} → Wrote o pos (wordsFrom (wordBelow c) ws at (w / 65536 - at)) o′ p →
+      Emitted ws at 1 a s c o pos o′ (record { at = w / 65536; pos = p; next = s .next; default = s .default; count = 1 })
+  copied-emits {o} {o′} {p} g = record {
     moved = record {
-      wrote = subst (λ (l : List ℕ). Wrote o pos l o′ (r .pos)) (sym words) (g .wrote);
-      place = g .place ∙ t .place;
-      state = after ∙ states (g .next) (g .default);
+      wrote = subst (λ (l : List ℕ). Wrote o pos l o′ p) (sym words) g;
+      place = t .place;
+      state = after ∙ (unfold stateIn in refl);
     };
-    number = g .one ∙ sym (ap countF here ∙ ap countF (record-one ws at h) ∙ (unfold countF in refl));
+    number = sym (ap countF here ∙ ap countF (record-one ws at h) ∙ (unfold countF in refl));
   }
     where
       after : afterAt ws at 1 a s ≡ stateIn s
       after = unfold afterAt in still-after ws (f .ready .whole) at h (t .still b) (aroundOf a) (stateIn s)
-
-      states : r .next ≡ s .next → r .default ≡ s .default → stateIn s ≡ stateOf (r .next) (r .default)
-      states x y = unfold stateIn stateOf in cc (x, y)

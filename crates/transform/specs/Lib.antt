@@ -6,6 +6,7 @@ pub mod Leaves
 pub mod Marks
 pub mod Tests
 pub mod Plans
+pub mod Plain
 pub mod Steps
 pub mod StepsClasses
 pub mod Copies

@@ -289,7 +289,7 @@ module _ (ws : List ℕ) (whole : Fits (module′ ∷ []) (recordsAt ws 0)) (at 
   unfolding scope
   scope-live = refl
 
-  calls-queued : countCalled (elementsOf (rk ws at)) ≡ countF (queue ws at n)
+  pub calls-queued : countCalled (elementsOf (rk ws at)) ≡ countF (queue ws at n)
   unfolding queue kidsAt
   calls-queued =
       let b : ℕ = bodyAt ws at in

@@ -1,6 +1,6 @@
 -- Laws for the walkers of records that are kept, of lists, of a module and of classes that aren't live. Assumes nothing.
 use mathlib.Core.Path.{_≡_, refl, ap, sym, subst, _∙_}
-use mathlib.Core.Bool.{true, false}
+use mathlib.Core.Bool.{Bool, true, false}
 use mathlib.Core.Option.{Option, none}
 use mathlib.Core.Logic.{_⊎_, inl, ⊎-elim}
 use mathlib.Core.List.{List, [], _∷_, _++_}
@@ -19,23 +19,24 @@ use Rattle.grammar.specs.Grammar.{Slot, row, table, rowOf, slots, slotsBelow, m
 use Rattle.grammar.specs.Children.{allowed-sole}
 use Rattle.grammar.specs.Rows.{soleKind}
 use Rattle.grammar.specs.WellFormed.{Fits}
-use Rattle.rewriting.specs.Parts.{module′ as moduleRole, list, statement, expression, constructor, plain, roleOf, tree, recount, isMember, isConstructor, isLive, classKids, idOf}
-use Rattle.rewriting.specs.Visit.{Around, State, Result, visit, visitOne, work, since, own, kept, deadClass, classIf, wholeModule, inside, entering}
+use Rattle.rewriting.specs.Parts.{module′ as moduleRole, list, expression, constructor, plain, roleOf, tree, recount, isMember, isConstructor, isLive, classKids, idOf}
+use Rattle.rewriting.specs.Visit.{Around, State, Result, visit, visitOne, work, since, own, kept, deadClass, wholeModule, inside, entering}
 use Rattle.class_stack.specs.declared.ClassStack.{ClassStack}
 use Rattle.inspect.specs.Child.{optOf, opt-none}
 use Rattle.walk_laws.specs.Rows.{visitAt, fresh, here-add}
 use Rattle.walk_laws.specs.Written.{wordBy, written, written-tree, written-node}
 use Rattle.walk_laws.specs.Slots.{Standing, standing-at, RowFits, kind-row, row-first}
 use Rattle.walk_laws.specs.Single.{Stays, keeps, one-stays}
-use Rattle.walk_laws.specs.Roles.{role-4, role-20, Sort, isMethod, isProperty, isAccessor, member-sort}
+use Rattle.walk_laws.specs.Roles.{role-20, Sort, isMethod, isProperty, isAccessor, member-sort}
 use Rattle.walk_laws.specs.Members.{member-written}
-use Rattle.walk_laws.specs.After.{after-plain, after-constructor, after-list, after-module, after-expression, after-dead}
+use Rattle.walk_laws.specs.After.{after-plain, after-constructor, after-list, after-module, after-expression}
 use Rattle.walk_laws.specs.Kinds.{class-one, class-row-one, class-kids}
 use Rattle.counter.specs.Contract.{aroundOf, stateOf}
 use Rattle.counter.specs.declared.Scope.{Scope}
 use Rattle.counter.specs.declared.Count.{Count}
 use Rattle.transform.specs.Contract.{wordBelow, wordsOf, stateIn, hereAt, afterAt, Asks, Moved, Emitted, kidsHere, behindWords, memberWords}
 use Rattle.transform.specs.Steps.{state-high, asks-row, asks-kids, emit-add, emit-past, size-more, here-none, after-none, here-more, after-more, end-more′, here-one, after-one, here-kids, after-kids, length-words}
+use Rattle.transform.specs.Plain.{isPlain, class-here, class-after}
 use Rattle.transform.specs.declared.Went.{Went}
 
 -- ---- what a record becomes, by its role
@@ -61,10 +62,6 @@ module _ (around : Around) (l : Label) (k : Trees) (s : State) where
   expression-here : roleOf l ≡ expression → visitOne around l k s .here ≡ tree l (visit (record { live = false; id = none }) k (fresh (s .next)) .here)
   unfolding visitOne work since
   expression-here e = rw e (unfold own deadClass inside entering fresh in refl)
-
-  dead-here : roleOf l ≡ statement → isLive k ≡ false → visitOne around l k s .here ≡ tree l (visit (record { live = false; id = idOf (classKids k) }) k (fresh (s .next)) .here)
-  unfolding visitOne work since
-  dead-here e d = rw e (unfold own inside entering fresh in rw d (unfold classIf deadClass in refl))
 
 -- ---- words of one record
 
@@ -140,54 +137,54 @@ module _ (ws : List ℕ) (at : ℕ) (a : Scope) (s : Count) (c : ClassStack) (h 
       emit-tree (recount (labelAt ws at) f) f (r .next) (r .default) (r .pos) (r .at) (list-tree role) (wrote-front (y′ .moved .wrote) w′)
       (after-one ws at a s h ∙ after-list (aroundOf a) (labelAt ws at) (kidsAt ws at) (stateIn s) role ∙ sym (after-kids ws at a s) ∙ y′ .moved .state) (y′ .moved .place)
 
-  -- ---- a class that isn't live: an expression, or declare
+  -- ---- a class under a word that stays: an expression, or a plain statement
 
   fresh-in : fresh (stateIn s .next) ≡ stateIn (record { next = s .next; default = 67108864 })
   unfolding fresh stateIn stateOf
   fresh-in = ap (λ (o : Option ℕ). record { next = s .next; default = o }) (sym opt-none)
 
-  scope-of : (b : Scope) (o : Option ℕ) → b .live ≡ false → optOf (b .id) ≡ o → record { live = false; id = o } ≡ aroundOf b
+  scope-of : (b : Scope) (x : Bool) (o : Option ℕ) → b .live ≡ x → optOf (b .id) ≡ o → record { live = x; id = o } ≡ aroundOf b
   unfolding aroundOf
-  scope-of b o l i = sym (rw (l, i))
+  scope-of b x o l i = sym (rw (l, i))
 
-  dead-row : (b : Scope) (o : Option ℕ) → b .live ≡ false → optOf (b .id) ≡ o → kidsAt ws at ≡ takeF 1 (recordsAt ws (at + 1)) →
-      visit (record { live = false; id = o }) (kidsAt ws at) (fresh (stateIn s .next)) ≡ visitAt ws (at + 1) 1 (aroundOf b) (stateIn (record { next = s .next; default = 67108864 }))
+  cover-row : (b : Scope) (x : Bool) (o : Option ℕ) → b .live ≡ x → optOf (b .id) ≡ o → kidsAt ws at ≡ takeF 1 (recordsAt ws (at + 1)) →
+      visit (record { live = x; id = o }) (kidsAt ws at) (fresh (stateIn s .next)) ≡ visitAt ws (at + 1) 1 (aroundOf b) (stateIn (record { next = s .next; default = 67108864 }))
   unfolding visitAt
-  dead-row b o l i k =
-      ap (λ (x : Around). visit x (kidsAt ws at) (fresh (stateIn s .next))) (scope-of b o l i)
+  cover-row b x o l i k =
+      ap (λ (y : Around). visit y (kidsAt ws at) (fresh (stateIn s .next))) (scope-of b x o l i)
       ∙ ap (λ (f : Trees). visit (aroundOf b) f (fresh (stateIn s .next))) k
-      ∙ ap (λ (x : State). visit (aroundOf b) (takeF 1 (recordsAt ws (at + 1))) x) fresh-in
+      ∙ ap (λ (y : State). visit (aroundOf b) (takeF 1 (recordsAt ws (at + 1))) y) fresh-in
 
   state-keep : (m e : ℕ) → record { next = stateOf m e .next; default = stateIn s .default } ≡ stateOf m (s .default)
   unfolding stateOf stateIn
   state-keep m e = refl
 
   -- either way it is a tree over the class below, with the default symbol of the class around
-  module _ (b : Scope) (o : Option ℕ) (l : b .live ≡ false) (i : optOf (b .id) ≡ o) (one : arityAt ws at ≡ 1) (kids : kidsAt ws at ≡ takeF 1 (recordsAt ws (at + 1)))
-      (here : visitOne (aroundOf a) (labelAt ws at) (kidsAt ws at) (stateIn s) .here ≡ tree (labelAt ws at) (visit (record { live = false; id = o }) (kidsAt ws at) (fresh (stateIn s .next)) .here))
-      (after : visitOne (aroundOf a) (labelAt ws at) (kidsAt ws at) (stateIn s) .after ≡ record { next = visit (record { live = false; id = o }) (kidsAt ws at) (fresh (stateIn s .next)) .after .next; default = stateIn s .default }) where
-    dead-tree : hereAt ws at 1 a s ≡ tree (labelAt ws at) (hereAt ws (at + 1) 1 b (record { next = s .next; default = 67108864 }))
+  module _ (b : Scope) (x : Bool) (o : Option ℕ) (l : b .live ≡ x) (i : optOf (b .id) ≡ o) (one : arityAt ws at ≡ 1) (kids : kidsAt ws at ≡ takeF 1 (recordsAt ws (at + 1)))
+      (here : visitOne (aroundOf a) (labelAt ws at) (kidsAt ws at) (stateIn s) .here ≡ tree (labelAt ws at) (visit (record { live = x; id = o }) (kidsAt ws at) (fresh (stateIn s .next)) .here))
+      (after : visitOne (aroundOf a) (labelAt ws at) (kidsAt ws at) (stateIn s) .after ≡ record { next = visit (record { live = x; id = o }) (kidsAt ws at) (fresh (stateIn s .next)) .after .next; default = stateIn s .default }) where
+    cover-tree : hereAt ws at 1 a s ≡ tree (labelAt ws at) (hereAt ws (at + 1) 1 b (record { next = s .next; default = 67108864 }))
     unfolding hereAt
-    dead-tree = (unfold hereAt in here-one ws at a s h) ∙ here ∙ ap (λ (r : Result). tree (labelAt ws at) (r .here)) (dead-row b o l i kids)
+    cover-tree = (unfold hereAt in here-one ws at a s h) ∙ here ∙ ap (λ (r : Result). tree (labelAt ws at) (r .here)) (cover-row b x o l i kids)
 
-    dead-size : size (hereAt ws at 1 a s) ≡ suc (size (hereAt ws (at + 1) 1 b (record { next = s .next; default = 67108864 })))
-    dead-size = ap size dead-tree ∙ size-tree (labelAt ws at) (hereAt ws (at + 1) 1 b (record { next = s .next; default = 67108864 }))
+    cover-size : size (hereAt ws at 1 a s) ≡ suc (size (hereAt ws (at + 1) 1 b (record { next = s .next; default = 67108864 })))
+    cover-size = ap size cover-tree ∙ size-tree (labelAt ws at) (hereAt ws (at + 1) 1 b (record { next = s .next; default = 67108864 }))
 
-    dead-state : visit (record { live = false; id = o }) (kidsAt ws at) (fresh (stateIn s .next)) .after ≡ afterAt ws (at + 1) 1 b (record { next = s .next; default = 67108864 })
+    cover-state : visit (record { live = x; id = o }) (kidsAt ws at) (fresh (stateIn s .next)) .after ≡ afterAt ws (at + 1) 1 b (record { next = s .next; default = 67108864 })
     unfolding afterAt
-    dead-state = ap (λ (r : Result). r .after) (dead-row b o l i kids)
+    cover-state = ap (λ (r : Result). r .after) (cover-row b x o l i kids)
 
-    dead-after : (m e : ℕ) → afterAt ws (at + 1) 1 b (record { next = s .next; default = 67108864 }) ≡ stateOf m e → afterAt ws at 1 a s ≡ stateOf m (s .default)
-    dead-after m e t =
-        after-one ws at a s h ∙ after ∙ ap (λ (x : State). record { next = x .next; default = stateIn s .default }) (dead-state ∙ t) ∙ state-keep m e
+    cover-after : (m e : ℕ) → afterAt ws (at + 1) 1 b (record { next = s .next; default = 67108864 }) ≡ stateOf m e → afterAt ws at 1 a s ≡ stateOf m (s .default)
+    cover-after m e t =
+        after-one ws at a s h ∙ after ∙ ap (λ (y : State). record { next = y .next; default = stateIn s .default }) (cover-state ∙ t) ∙ state-keep m e
 
-    emit-dead : (k p : ℕ) {o₀ : List ℕ} {pos : ℕ} {o₁ : List ℕ} {q : ℕ} {o₂ : List ℕ} {r : Went} → k ≡ labelAt ws at .kind → p ≡ labelAt ws at .payload →
+    emit-cover : (k p : ℕ) {o₀ : List ℕ} {pos : ℕ} {o₁ : List ℕ} {q : ℕ} {o₂ : List ℕ} {r : Went} → k ≡ labelAt ws at .kind → p ≡ labelAt ws at .payload →
         Wrote o₀ pos (wordBelow c k p ∷ []) o₁ q → Emitted ws (at + 1) 1 b (record { next = s .next; default = 67108864 }) c o₁ q o₂ r →
         Emitted ws at 1 a s c o₀ pos o₂ (record { at = r .at; pos = r .pos; next = r .next; default = s .default; count = 1 })
-    emit-dead k p {o₀} {pos} {o₁} {q} {o₂} {r} ek ep w y =
-        let w′ : Wrote o₀ pos (wordBelow c (labelAt ws at .kind) (labelAt ws at .payload) ∷ []) o₁ q = subst (λ (x : ℕ). Wrote o₀ pos (wordBelow c (labelAt ws at .kind) x ∷ []) o₁ q) ep (subst (λ (x : ℕ). Wrote o₀ pos (wordBelow c x p ∷ []) o₁ q) ek w) in
-        emit-tree (labelAt ws at) (hereAt ws (at + 1) 1 b (record { next = s .next; default = 67108864 })) (r .next) (s .default) (r .pos) (r .at) dead-tree (wrote-then w′ (y .moved .wrote))
-        (dead-after (r .next) (r .default) (y .moved .state)) (y .moved .place ∙ ap (endOf ws (at + 1)) (sym one))
+    emit-cover k p {o₀} {pos} {o₁} {q} {o₂} {r} ek ep w y =
+        let w′ : Wrote o₀ pos (wordBelow c (labelAt ws at .kind) (labelAt ws at .payload) ∷ []) o₁ q = subst (λ (j : ℕ). Wrote o₀ pos (wordBelow c (labelAt ws at .kind) j ∷ []) o₁ q) ep (subst (λ (j : ℕ). Wrote o₀ pos (wordBelow c j p ∷ []) o₁ q) ek w) in
+        emit-tree (labelAt ws at) (hereAt ws (at + 1) 1 b (record { next = s .next; default = 67108864 })) (r .next) (s .default) (r .pos) (r .at) cover-tree (wrote-then w′ (y .moved .wrote))
+        (cover-after (r .next) (r .default) (y .moved .state)) (y .moved .place ∙ ap (endOf ws (at + 1)) (sym one))
 
   -- a class expression
 
@@ -211,37 +208,33 @@ module _ (ws : List ℕ) (at : ℕ) (a : Scope) (s : Count) (c : ClassStack) (h 
     after-20 = after-expression (aroundOf a) (labelAt ws at) (kidsAt ws at) (stateIn s) (role-20 (labelAt ws at) kind)
 
     pub expression-size : (b : Scope) → b .live ≡ false → optOf (b .id) ≡ none → size (hereAt ws at 1 a s) ≡ suc (size (hereAt ws (at + 1) 1 b (record { next = s .next; default = 67108864 })))
-    expression-size b l i = dead-size b none l i one-20 kids-20 here-20 after-20
+    expression-size b l i = cover-size b false none l i one-20 kids-20 here-20 after-20
 
     pub emit-expression : (b : Scope) → b .live ≡ false → optOf (b .id) ≡ none → (k p : ℕ) {o₀ : List ℕ} {pos : ℕ} {o₁ : List ℕ} {q : ℕ} {o₂ : List ℕ} {r : Went} →
         k ≡ labelAt ws at .kind → p ≡ labelAt ws at .payload →
         Wrote o₀ pos (wordBelow c k p ∷ []) o₁ q → Emitted ws (at + 1) 1 b (record { next = s .next; default = 67108864 }) c o₁ q o₂ r →
         Emitted ws at 1 a s c o₀ pos o₂ (record { at = r .at; pos = r .pos; next = r .next; default = s .default; count = 1 })
-    emit-expression b l i k p ek ep w y = emit-dead b none l i one-20 kids-20 here-20 after-20 k p ek ep w y
+    emit-expression b l i k p ek ep w y = emit-cover b false none l i one-20 kids-20 here-20 after-20 k p ek ep w y
 
-  -- a class statement that is declare
+  -- a class statement that is plain
 
-  module _ (whole : Fits (module′ ∷ []) (recordsAt ws 0)) (kind : labelAt ws at .kind ≡ 4) (dead : isLive (takeF 1 (recordsAt ws (at + 1))) ≡ false) where
-    not-live : isLive (kidsAt ws at) ≡ false
-    not-live = ap isLive (class-row-one ws whole at h kind) ∙ dead
-
+  module _ (whole : Fits (module′ ∷ []) (recordsAt ws 0)) (kind : labelAt ws at .kind ≡ 4) (x : Bool) (live : isLive (takeF 1 (recordsAt ws (at + 1))) ≡ x)
+      (bare : x ≡ true → isPlain (kidsAt ws (at + 1)) ≡ true) where
     id-4 : idOf (classKids (kidsAt ws at)) ≡ idOf (kidsAt ws (at + 1))
     id-4 = ap idOf (class-kids ws whole at h kind)
 
-    here-4 : visitOne (aroundOf a) (labelAt ws at) (kidsAt ws at) (stateIn s) .here ≡ tree (labelAt ws at) (visit (record { live = false; id = idOf (classKids (kidsAt ws at)) }) (kidsAt ws at) (fresh (stateIn s .next)) .here)
-    here-4 = dead-here (aroundOf a) (labelAt ws at) (kidsAt ws at) (stateIn s) (role-4 (labelAt ws at) kind) not-live
+    pub class-size : (b : Scope) → b .live ≡ x → optOf (b .id) ≡ idOf (kidsAt ws (at + 1)) → size (hereAt ws at 1 a s) ≡ suc (size (hereAt ws (at + 1) 1 b (record { next = s .next; default = 67108864 })))
+    class-size b l i =
+        cover-size b x (idOf (classKids (kidsAt ws at))) l (i ∙ sym id-4) (class-one ws whole at h kind) (class-row-one ws whole at h kind)
+        (class-here ws whole at h kind (aroundOf a) (stateIn s) x live bare) (class-after ws whole at h kind (aroundOf a) (stateIn s) x live bare)
 
-    after-4 : visitOne (aroundOf a) (labelAt ws at) (kidsAt ws at) (stateIn s) .after ≡ record { next = visit (record { live = false; id = idOf (classKids (kidsAt ws at)) }) (kidsAt ws at) (fresh (stateIn s .next)) .after .next; default = stateIn s .default }
-    after-4 = after-dead (aroundOf a) (labelAt ws at) (kidsAt ws at) (stateIn s) (role-4 (labelAt ws at) kind) not-live
-
-    pub declared-size : (b : Scope) → b .live ≡ false → optOf (b .id) ≡ idOf (kidsAt ws (at + 1)) → size (hereAt ws at 1 a s) ≡ suc (size (hereAt ws (at + 1) 1 b (record { next = s .next; default = 67108864 })))
-    declared-size b l i = dead-size b (idOf (classKids (kidsAt ws at))) l (i ∙ sym id-4) (class-one ws whole at h kind) (class-row-one ws whole at h kind) here-4 after-4
-
-    pub emit-declared : (b : Scope) → b .live ≡ false → optOf (b .id) ≡ idOf (kidsAt ws (at + 1)) → (k p : ℕ) {o₀ : List ℕ} {pos : ℕ} {o₁ : List ℕ} {q : ℕ} {o₂ : List ℕ} {r : Went} →
+    pub emit-class : (b : Scope) → b .live ≡ x → optOf (b .id) ≡ idOf (kidsAt ws (at + 1)) → (k p : ℕ) {o₀ : List ℕ} {pos : ℕ} {o₁ : List ℕ} {q : ℕ} {o₂ : List ℕ} {r : Went} →
         k ≡ labelAt ws at .kind → p ≡ labelAt ws at .payload →
         Wrote o₀ pos (wordBelow c k p ∷ []) o₁ q → Emitted ws (at + 1) 1 b (record { next = s .next; default = 67108864 }) c o₁ q o₂ r →
         Emitted ws at 1 a s c o₀ pos o₂ (record { at = r .at; pos = r .pos; next = r .next; default = s .default; count = 1 })
-    emit-declared b l i k p ek ep w y = emit-dead b (idOf (classKids (kidsAt ws at))) l (i ∙ sym id-4) (class-one ws whole at h kind) (class-row-one ws whole at h kind) here-4 after-4 k p ek ep w y
+    emit-class b l i k p ek ep w y =
+        emit-cover b x (idOf (classKids (kidsAt ws at))) l (i ∙ sym id-4) (class-one ws whole at h kind) (class-row-one ws whole at h kind)
+        (class-here ws whole at h kind (aroundOf a) (stateIn s) x live bare) (class-after ws whole at h kind (aroundOf a) (stateIn s) x live bare) k p ek ep w y
 
 -- ---- a module
 

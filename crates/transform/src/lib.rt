@@ -17,14 +17,15 @@ ghost use Rattle.records.specs.Label.{is, bit, _∶_};
 ghost use Rattle.records.specs.Ends.{Ends};
 ghost use Rattle.records.specs.Place.{recordsAt, labelAt, arityAt, kidsAt, endOf};
 ghost use Rattle.output.specs.Overlay.{Wrote};
-ghost use Rattle.grammar.specs.Grammar.{element};
-ghost use Rattle.grammar.specs.WellFormed.{Allowed};
+ghost use Rattle.grammar.specs.Grammar.{element, module′};
+ghost use Rattle.grammar.specs.WellFormed.{Allowed, Fits};
 ghost use Rattle.rewriting.specs.Parts.{plain, list, constructor, roleOf, bareParameters, indexed, ofParameters, isDecoratedMember, hasPlainKey, idOf, hasPrivateIn, isLive};
 ghost use Rattle.class_stack.specs.Renaming.{capacity, Ready as StackReady, subs};
 ghost use Rattle.inspect.specs.Child.{optOf};
 ghost use Rattle.inspect.specs.Class.{countCalled};
 ghost use Rattle.walk_laws.specs.Rows.{visitAt};
 ghost use Rattle.walk_laws.specs.Written.{written};
+ghost use Rattle.walk_laws.specs.Still.{wordsFrom};
 ghost use Rattle.walk_laws.specs.Slots.{RowFits};
 ghost use Rattle.walk_laws.specs.Kinds.{isElementKind};
 ghost use Rattle.walk_laws.specs.Members.{parametersWords};
@@ -33,7 +34,8 @@ ghost use Rattle.walk_laws.specs.ClassPlan.{optional, one, exportWords, ds, cla
 ghost use Rattle.counter.specs.Contract.{aroundOf, stateOf, markIn, Planned, Below, Ready, Annotated};
 ghost use Rattle.transform.specs.Nest.{nestAt};
 ghost use Rattle.transform.specs.Contract.{wordBelow, wordsOf, stateIn, hereAt, callsAt, afterAt, kidsHere, Asks, Moved, Emitted, Queues, behindWords, memberWords, takesKey};
-ghost use Rattle.transform.specs.Copies.{Copies, Copied};
+ghost use Rattle.transform.specs.Copies.{Copies};
+ghost use Rattle.transform.specs.Plain.{isPlain};
 ghost use Rattle.transform.specs.ClassWords.{scopeOf, bodyWord, frontOf, blockOf, letWords, headOf, flagsOf, nameWords, frontWords, assignWords, elementsBy, bodyBy, firstBy, assignmentBy, PlanFrom, Plans};
 
 // Where the walk stands: in the words read and the words written; the state; how many records were written.
@@ -99,6 +101,15 @@ pub fn records(
                 count: m,
             };
         }
+        let note = notes[q];
+        if note / 2 % 2 == 1 {
+            let e = (note / 65536) as usize;
+            p = copied(ws, q, e, c, out, p);
+            q = e;
+            m += 1;
+            i += 1;
+            continue;
+        }
         let r = record(
             ws,
             notes,
@@ -143,7 +154,15 @@ pub fn record(
 {
     let w = notes[at];
     if w / 2 % 2 == 1 {
-        return copied(ws, at, (w / 65536) as usize, s, c, out, pos);
+        let e = (w / 65536) as usize;
+        let p = copied(ws, at, e, c, out, pos);
+        return Went {
+            at: e,
+            pos: p,
+            next: s.next,
+            default: s.default,
+            count: 1,
+        };
     }
     let k = inspect::kind_at(ws, at);
     match k {
@@ -166,17 +185,9 @@ pub fn record(
 }
 
 // A record in which nothing changes, and which ends at e: its words under the classes around.
-fn copied(
-    ws: &[u32],
-    at: usize,
-    e: usize,
-    s: Count,
-    c: ClassStack,
-    out: &mut [u32],
-    pos: usize,
-) -> Went
+fn copied(ws: &[u32], at: usize, e: usize, c: ClassStack, out: &mut [u32], pos: usize) -> usize
     requires { ⌜ Copies (now ws) at e c pos ⌝ }
-    ensures { λ r. ⌜ Copied (now (ws .entry)) at e s c (now (out .entry)) pos (now (out .exit)) r ⌝ }
+    ensures { λ r. ⌜ Wrote (now (out .entry)) pos (wordsFrom (wordBelow c) (now (ws .entry)) at (e - at)) (now (out .exit)) r ⌝ }
 {
     let mut i = at;
     let mut p = pos;
@@ -190,13 +201,7 @@ fn copied(
         );
         i += 1;
     }
-    Went {
-        at: e,
-        pos: p,
-        next: s.next,
-        default: s.default,
-        count: 1,
-    }
+    p
 }
 
 // A module: its statements are counted again, and its 40 holds the next fresh symbol (rule 1). Both words are put in front last.
@@ -372,23 +377,39 @@ fn class_statement(
     ensures { λ r. ⌜ Emitted (now (ws .entry)) at 1 a s c (now (out .entry)) pos (now (out .exit)) r ⌝ }
 {
     if inspect::is_live(ws, at + 1) {
+        if is_plain(ws, notes, at) {
+            return plain(ws, notes, at, a, true, s, c, out, pos);
+        }
         return live_class(ws, notes, at, a, s, c, out, pos);
     }
-    declared(ws, notes, at, a, s, c, out, pos)
+    plain(ws, notes, at, a, false, s, c, out, pos)
 }
 
-// A class statement that is declare.
-fn declared(
+// Is neither the class of the statement at `at` decorated, nor a member of it?
+fn is_plain(ws: &[u32], notes: &[u32], at: usize) -> bool
+    requires { ⌜ Planned (now ws) (now notes) × Fits (module′ ∷ []) (recordsAt (now ws) 0) × (at < length (now ws)) × (labelAt (now ws) at .kind ≡ 4) ⌝ }
+    ensures { λ r. ⌜ r ≡ isPlain (kidsAt (now (ws .entry)) (at + 1)) ⌝ }
+{
+    if notes[at + 1] % 2 == 1 {
+        return false;
+    }
+    let b = inspect::body(ws, notes, at + 1);
+    notes[b] % 2 != 1
+}
+
+// A class statement that stays one: its class is declare, or plain.
+fn plain(
     ws: &[u32],
     notes: &[u32],
     at: usize,
     a: Scope,
+    live: bool,
     s: Count,
     c: ClassStack,
     out: &mut [u32],
     pos: usize,
 ) -> Went
-    requires { ⌜ Asks (now ws) (now notes) at 1 (s .next) c pos (size (hereAt (now ws) at 1 a s)) × (at < length (now ws)) × (labelAt (now ws) at .kind ≡ 4) × (isLive (takeF 1 (recordsAt (now ws) (at + 1))) ≡ false) ⌝ }
+    requires { ⌜ Asks (now ws) (now notes) at 1 (s .next) c pos (size (hereAt (now ws) at 1 a s)) × (at < length (now ws)) × (labelAt (now ws) at .kind ≡ 4) × (isLive (takeF 1 (recordsAt (now ws) (at + 1))) ≡ live) × (live ≡ true → isPlain (kidsAt (now ws) (at + 1)) ≡ true) ⌝ }
     ensures { λ r. ⌜ Emitted (now (ws .entry)) at 1 a s c (now (out .entry)) pos (now (out .exit)) r ⌝ }
 {
     let id = inspect::class_id(ws, notes, at + 1);
@@ -404,7 +425,7 @@ fn declared(
         notes,
         at + 1,
         1,
-        Scope { live: false, id },
+        Scope { live, id },
         Count {
             next: s.next,
             default: NONE,
@@ -1407,11 +1428,11 @@ fn elements(
         id: g.id,
     };
     let k = inspect::children_at(ws, b);
-    let j = inspect::first_constructor(ws, notes, b + 1, k);
     if !g.decorated {
         let r = records(ws, notes, b + 1, k, a, s, c, out, pos);
         return r.pos;
     }
+    let j = inspect::first_constructor(ws, notes, b + 1, k);
     if k <= j {
         let r = records(ws, notes, b + 1, k, a, s, c, out, pos);
         return r.pos;

@@ -5,15 +5,14 @@ use Rattle.transform.specs.StepsCalls.{wrote-length}
 use native.Mathlib.Omega.{arith}
 use borrow.Author.Needs.{needs}
 use Prim.Native.Nat.{_-_}
-use mathlib.Core.Path.{refl}
 use Rattle.transform.proofs.copied.Statement.{statement}
 use Rattle.transform.proofs.copied.Tie as tie
 
 abbrev Inv-loop : tie.InvT-loop
-Inv-loop ws at e s c out₀ pos i₀ p₀ out i p = Copying ws at e c out₀ pos i out p
+Inv-loop ws at e c out₀ pos i₀ p₀ out i p = Copying ws at e c out₀ pos i out p
 
 abbrev μ-loop : tie.MeasureT-loop
-μ-loop ws at e s c out₀ pos i₀ p₀ out i p = e - i
+μ-loop ws at e c out₀ pos i₀ p₀ out i p = e - i
 
 loop-holds : tie.Need-loop-holds Inv-loop μ-loop
 loop-holds c = copying-start (c .before .before .pre .some)
@@ -44,7 +43,7 @@ same-length : tie.Need-same-length Inv-loop μ-loop
 same-length c = wrote-length (c .before .loop .inv .wrote)
 
 returns : tie.Need-returns Inv-loop μ-loop
-returns c = record { wrote = copying-all (c .before .loop .inv) (c .loop-test .left); place = refl; next = refl; default = refl; one = refl }
+returns c = copying-all (c .before .loop .inv) (c .loop-test .left)
 
 pub copied-spec : {M : Type 1} → statement M
 copied-spec =

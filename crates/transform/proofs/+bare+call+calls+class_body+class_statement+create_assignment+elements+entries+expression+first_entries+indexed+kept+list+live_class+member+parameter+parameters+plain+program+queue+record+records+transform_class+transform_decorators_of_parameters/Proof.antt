@@ -39,7 +39,7 @@ use Rattle.records.specs.Place.{arityAt, end-low}
 use lib.ListN.{length}
 use Prim.Native.Nat.{_+_, _*_, _-_, _≤_}
 use mathlib.Core.Path.{refl, ap, sym, _∙_}
-use Rattle.transform.specs.StepsRecords.{kept-size, emit-kept, list-size, emit-list, expression-size, emit-expression, declared-size, emit-declared, module-size, emit-module, module-asks, module-inside, emit-inside, asks-one, one-20, next-small, member-size, emit-member, list-3, list-33, list-39, plain-rest, constructor-30, member-30, member-31, member-32, kind-small, emit-rest, asks-next, next-size}
+use Rattle.transform.specs.StepsRecords.{kept-size, emit-kept, list-size, emit-list, expression-size, emit-expression, class-size, emit-class, module-size, emit-module, module-asks, module-inside, emit-inside, asks-one, one-20, next-small, member-size, emit-member, list-3, list-33, list-39, plain-rest, constructor-30, member-30, member-31, member-32, kind-small, emit-rest, asks-next, next-size}
 use Rattle.transform.specs.Steps.{asks-kids, asks-words, emit-none, emit-add, length-words}
 use Rattle.transform.specs.Contract.{hereAt, Asks, Emitted, memberWords}
 use Rattle.counter.specs.declared.Scope.{Scope}
@@ -55,7 +55,7 @@ use borrow.Author.Needs.{needs}
 use native.Mathlib.Omega.{arith}
 use Prim.Native.Nat.{_+_, _*_, _-_, _≤_}
 use mathlib.Core.Logic.{inl, inr}
-use mathlib.Core.Bool.{true, false}
+use mathlib.Core.Bool.{true, false, false≢true}
 use mathlib.Core.Path.{_≡_, refl, ap, sym, subst, _∙_}
 use Prim.Native.Nat.{ℕ, _<_}
 use borrow.Fn.Kinds.{In}
@@ -63,76 +63,76 @@ use borrow.Fn.PlainCycle.{Measures, is, falls, and}
 use Rattle.transform.proofs.bare.Reads as bare
 use Rattle.transform.proofs.bare.Kinds as bare-kinds
 use Rattle.transform.proofs.copied.Reads as copied-reads
-use Rattle.transform.proofs.+bare+call+calls+class_body+class_statement+create_assignment+declared+elements+entries+expression+first_entries+indexed+kept+list+live_class+member+parameter+parameters+program+queue+record+records+transform_class+transform_decorators_of_parameters.Lts-bare as bare-lts
+use Rattle.transform.proofs.+bare+call+calls+class_body+class_statement+create_assignment+elements+entries+expression+first_entries+indexed+kept+list+live_class+member+parameter+parameters+plain+program+queue+record+records+transform_class+transform_decorators_of_parameters.Lts-bare as bare-lts
 use Rattle.transform.proofs.call.Reads as call
 use Rattle.transform.proofs.call.Kinds as call-kinds
-use Rattle.transform.proofs.+bare+call+calls+class_body+class_statement+create_assignment+declared+elements+entries+expression+first_entries+indexed+kept+list+live_class+member+parameter+parameters+program+queue+record+records+transform_class+transform_decorators_of_parameters.Lts-call as call-lts
+use Rattle.transform.proofs.+bare+call+calls+class_body+class_statement+create_assignment+elements+entries+expression+first_entries+indexed+kept+list+live_class+member+parameter+parameters+plain+program+queue+record+records+transform_class+transform_decorators_of_parameters.Lts-call as call-lts
 use Rattle.transform.proofs.calls.Reads as calls
 use Rattle.transform.proofs.calls.Kinds as calls-kinds
-use Rattle.transform.proofs.+bare+call+calls+class_body+class_statement+create_assignment+declared+elements+entries+expression+first_entries+indexed+kept+list+live_class+member+parameter+parameters+program+queue+record+records+transform_class+transform_decorators_of_parameters.Lts-calls as calls-lts
+use Rattle.transform.proofs.+bare+call+calls+class_body+class_statement+create_assignment+elements+entries+expression+first_entries+indexed+kept+list+live_class+member+parameter+parameters+plain+program+queue+record+records+transform_class+transform_decorators_of_parameters.Lts-calls as calls-lts
 use Rattle.transform.proofs.class_body.Reads as class-body
 use Rattle.transform.proofs.class_body.Kinds as class-body-kinds
-use Rattle.transform.proofs.+bare+call+calls+class_body+class_statement+create_assignment+declared+elements+entries+expression+first_entries+indexed+kept+list+live_class+member+parameter+parameters+program+queue+record+records+transform_class+transform_decorators_of_parameters.Lts-class_body as class-body-lts
+use Rattle.transform.proofs.+bare+call+calls+class_body+class_statement+create_assignment+elements+entries+expression+first_entries+indexed+kept+list+live_class+member+parameter+parameters+plain+program+queue+record+records+transform_class+transform_decorators_of_parameters.Lts-class_body as class-body-lts
 use Rattle.transform.proofs.class_statement.Reads as class-statement
 use Rattle.transform.proofs.class_statement.Kinds as class-statement-kinds
-use Rattle.transform.proofs.+bare+call+calls+class_body+class_statement+create_assignment+declared+elements+entries+expression+first_entries+indexed+kept+list+live_class+member+parameter+parameters+program+queue+record+records+transform_class+transform_decorators_of_parameters.Lts-class_statement as class-statement-lts
+use Rattle.transform.proofs.+bare+call+calls+class_body+class_statement+create_assignment+elements+entries+expression+first_entries+indexed+kept+list+live_class+member+parameter+parameters+plain+program+queue+record+records+transform_class+transform_decorators_of_parameters.Lts-class_statement as class-statement-lts
 use Rattle.transform.proofs.create_assignment.Reads as create-assignment
 use Rattle.transform.proofs.create_assignment.Kinds as create-assignment-kinds
-use Rattle.transform.proofs.+bare+call+calls+class_body+class_statement+create_assignment+declared+elements+entries+expression+first_entries+indexed+kept+list+live_class+member+parameter+parameters+program+queue+record+records+transform_class+transform_decorators_of_parameters.Lts-create_assignment as create-assignment-lts
-use Rattle.transform.proofs.declared.Reads as declared
-use Rattle.transform.proofs.declared.Kinds as declared-kinds
-use Rattle.transform.proofs.+bare+call+calls+class_body+class_statement+create_assignment+declared+elements+entries+expression+first_entries+indexed+kept+list+live_class+member+parameter+parameters+program+queue+record+records+transform_class+transform_decorators_of_parameters.Lts-declared as declared-lts
+use Rattle.transform.proofs.+bare+call+calls+class_body+class_statement+create_assignment+elements+entries+expression+first_entries+indexed+kept+list+live_class+member+parameter+parameters+plain+program+queue+record+records+transform_class+transform_decorators_of_parameters.Lts-create_assignment as create-assignment-lts
 use Rattle.transform.proofs.elements.Reads as elements
 use Rattle.transform.proofs.elements.Kinds as elements-kinds
-use Rattle.transform.proofs.+bare+call+calls+class_body+class_statement+create_assignment+declared+elements+entries+expression+first_entries+indexed+kept+list+live_class+member+parameter+parameters+program+queue+record+records+transform_class+transform_decorators_of_parameters.Lts-elements as elements-lts
+use Rattle.transform.proofs.+bare+call+calls+class_body+class_statement+create_assignment+elements+entries+expression+first_entries+indexed+kept+list+live_class+member+parameter+parameters+plain+program+queue+record+records+transform_class+transform_decorators_of_parameters.Lts-elements as elements-lts
 use Rattle.transform.proofs.entries.Reads as entries
 use Rattle.transform.proofs.entries.Kinds as entries-kinds
-use Rattle.transform.proofs.+bare+call+calls+class_body+class_statement+create_assignment+declared+elements+entries+expression+first_entries+indexed+kept+list+live_class+member+parameter+parameters+program+queue+record+records+transform_class+transform_decorators_of_parameters.Lts-entries as entries-lts
+use Rattle.transform.proofs.+bare+call+calls+class_body+class_statement+create_assignment+elements+entries+expression+first_entries+indexed+kept+list+live_class+member+parameter+parameters+plain+program+queue+record+records+transform_class+transform_decorators_of_parameters.Lts-entries as entries-lts
 use Rattle.transform.proofs.expression.Reads as expression
 use Rattle.transform.proofs.expression.Kinds as expression-kinds
-use Rattle.transform.proofs.+bare+call+calls+class_body+class_statement+create_assignment+declared+elements+entries+expression+first_entries+indexed+kept+list+live_class+member+parameter+parameters+program+queue+record+records+transform_class+transform_decorators_of_parameters.Lts-expression as expression-lts
+use Rattle.transform.proofs.+bare+call+calls+class_body+class_statement+create_assignment+elements+entries+expression+first_entries+indexed+kept+list+live_class+member+parameter+parameters+plain+program+queue+record+records+transform_class+transform_decorators_of_parameters.Lts-expression as expression-lts
 use Rattle.transform.proofs.first_entries.Reads as first-entries
 use Rattle.transform.proofs.first_entries.Kinds as first-entries-kinds
-use Rattle.transform.proofs.+bare+call+calls+class_body+class_statement+create_assignment+declared+elements+entries+expression+first_entries+indexed+kept+list+live_class+member+parameter+parameters+program+queue+record+records+transform_class+transform_decorators_of_parameters.Lts-first_entries as first-entries-lts
+use Rattle.transform.proofs.+bare+call+calls+class_body+class_statement+create_assignment+elements+entries+expression+first_entries+indexed+kept+list+live_class+member+parameter+parameters+plain+program+queue+record+records+transform_class+transform_decorators_of_parameters.Lts-first_entries as first-entries-lts
 use Rattle.transform.proofs.indexed.Reads as indexed
 use Rattle.transform.proofs.indexed.Kinds as indexed-kinds
-use Rattle.transform.proofs.+bare+call+calls+class_body+class_statement+create_assignment+declared+elements+entries+expression+first_entries+indexed+kept+list+live_class+member+parameter+parameters+program+queue+record+records+transform_class+transform_decorators_of_parameters.Lts-indexed as indexed-lts
+use Rattle.transform.proofs.+bare+call+calls+class_body+class_statement+create_assignment+elements+entries+expression+first_entries+indexed+kept+list+live_class+member+parameter+parameters+plain+program+queue+record+records+transform_class+transform_decorators_of_parameters.Lts-indexed as indexed-lts
 use Rattle.transform.proofs.kept.Reads as kept
 use Rattle.transform.proofs.kept.Kinds as kept-kinds
-use Rattle.transform.proofs.+bare+call+calls+class_body+class_statement+create_assignment+declared+elements+entries+expression+first_entries+indexed+kept+list+live_class+member+parameter+parameters+program+queue+record+records+transform_class+transform_decorators_of_parameters.Lts-kept as kept-lts
+use Rattle.transform.proofs.+bare+call+calls+class_body+class_statement+create_assignment+elements+entries+expression+first_entries+indexed+kept+list+live_class+member+parameter+parameters+plain+program+queue+record+records+transform_class+transform_decorators_of_parameters.Lts-kept as kept-lts
 use Rattle.transform.proofs.list.Reads as list
 use Rattle.transform.proofs.list.Kinds as list-kinds
-use Rattle.transform.proofs.+bare+call+calls+class_body+class_statement+create_assignment+declared+elements+entries+expression+first_entries+indexed+kept+list+live_class+member+parameter+parameters+program+queue+record+records+transform_class+transform_decorators_of_parameters.Lts-list as list-lts
+use Rattle.transform.proofs.+bare+call+calls+class_body+class_statement+create_assignment+elements+entries+expression+first_entries+indexed+kept+list+live_class+member+parameter+parameters+plain+program+queue+record+records+transform_class+transform_decorators_of_parameters.Lts-list as list-lts
 use Rattle.transform.proofs.live_class.Reads as live-class
 use Rattle.transform.proofs.live_class.Kinds as live-class-kinds
-use Rattle.transform.proofs.+bare+call+calls+class_body+class_statement+create_assignment+declared+elements+entries+expression+first_entries+indexed+kept+list+live_class+member+parameter+parameters+program+queue+record+records+transform_class+transform_decorators_of_parameters.Lts-live_class as live-class-lts
+use Rattle.transform.proofs.+bare+call+calls+class_body+class_statement+create_assignment+elements+entries+expression+first_entries+indexed+kept+list+live_class+member+parameter+parameters+plain+program+queue+record+records+transform_class+transform_decorators_of_parameters.Lts-live_class as live-class-lts
 use Rattle.transform.proofs.member.Reads as member
 use Rattle.transform.proofs.member.Kinds as member-kinds
-use Rattle.transform.proofs.+bare+call+calls+class_body+class_statement+create_assignment+declared+elements+entries+expression+first_entries+indexed+kept+list+live_class+member+parameter+parameters+program+queue+record+records+transform_class+transform_decorators_of_parameters.Lts-member as member-lts
+use Rattle.transform.proofs.+bare+call+calls+class_body+class_statement+create_assignment+elements+entries+expression+first_entries+indexed+kept+list+live_class+member+parameter+parameters+plain+program+queue+record+records+transform_class+transform_decorators_of_parameters.Lts-member as member-lts
 use Rattle.transform.proofs.parameter.Reads as parameter
 use Rattle.transform.proofs.parameter.Kinds as parameter-kinds
-use Rattle.transform.proofs.+bare+call+calls+class_body+class_statement+create_assignment+declared+elements+entries+expression+first_entries+indexed+kept+list+live_class+member+parameter+parameters+program+queue+record+records+transform_class+transform_decorators_of_parameters.Lts-parameter as parameter-lts
+use Rattle.transform.proofs.+bare+call+calls+class_body+class_statement+create_assignment+elements+entries+expression+first_entries+indexed+kept+list+live_class+member+parameter+parameters+plain+program+queue+record+records+transform_class+transform_decorators_of_parameters.Lts-parameter as parameter-lts
 use Rattle.transform.proofs.parameters.Reads as parameters
 use Rattle.transform.proofs.parameters.Kinds as parameters-kinds
-use Rattle.transform.proofs.+bare+call+calls+class_body+class_statement+create_assignment+declared+elements+entries+expression+first_entries+indexed+kept+list+live_class+member+parameter+parameters+program+queue+record+records+transform_class+transform_decorators_of_parameters.Lts-parameters as parameters-lts
+use Rattle.transform.proofs.+bare+call+calls+class_body+class_statement+create_assignment+elements+entries+expression+first_entries+indexed+kept+list+live_class+member+parameter+parameters+plain+program+queue+record+records+transform_class+transform_decorators_of_parameters.Lts-parameters as parameters-lts
+use Rattle.transform.proofs.plain.Reads as plain
+use Rattle.transform.proofs.plain.Kinds as plain-kinds
+use Rattle.transform.proofs.+bare+call+calls+class_body+class_statement+create_assignment+elements+entries+expression+first_entries+indexed+kept+list+live_class+member+parameter+parameters+plain+program+queue+record+records+transform_class+transform_decorators_of_parameters.Lts-plain as plain-lts
 use Rattle.transform.proofs.program.Reads as program
 use Rattle.transform.proofs.program.Kinds as program-kinds
-use Rattle.transform.proofs.+bare+call+calls+class_body+class_statement+create_assignment+declared+elements+entries+expression+first_entries+indexed+kept+list+live_class+member+parameter+parameters+program+queue+record+records+transform_class+transform_decorators_of_parameters.Lts-program as program-lts
+use Rattle.transform.proofs.+bare+call+calls+class_body+class_statement+create_assignment+elements+entries+expression+first_entries+indexed+kept+list+live_class+member+parameter+parameters+plain+program+queue+record+records+transform_class+transform_decorators_of_parameters.Lts-program as program-lts
 use Rattle.transform.proofs.queue.Reads as queue
 use Rattle.transform.proofs.queue.Kinds as queue-kinds
-use Rattle.transform.proofs.+bare+call+calls+class_body+class_statement+create_assignment+declared+elements+entries+expression+first_entries+indexed+kept+list+live_class+member+parameter+parameters+program+queue+record+records+transform_class+transform_decorators_of_parameters.Lts-queue as queue-lts
+use Rattle.transform.proofs.+bare+call+calls+class_body+class_statement+create_assignment+elements+entries+expression+first_entries+indexed+kept+list+live_class+member+parameter+parameters+plain+program+queue+record+records+transform_class+transform_decorators_of_parameters.Lts-queue as queue-lts
 use Rattle.transform.proofs.record.Reads as «record»
 use Rattle.transform.proofs.record.Kinds as record-kinds
-use Rattle.transform.proofs.+bare+call+calls+class_body+class_statement+create_assignment+declared+elements+entries+expression+first_entries+indexed+kept+list+live_class+member+parameter+parameters+program+queue+record+records+transform_class+transform_decorators_of_parameters.Lts-record as record-lts
+use Rattle.transform.proofs.+bare+call+calls+class_body+class_statement+create_assignment+elements+entries+expression+first_entries+indexed+kept+list+live_class+member+parameter+parameters+plain+program+queue+record+records+transform_class+transform_decorators_of_parameters.Lts-record as record-lts
 use Rattle.transform.proofs.records.Reads as records
 use Rattle.transform.proofs.records.Kinds as records-kinds
-use Rattle.transform.proofs.+bare+call+calls+class_body+class_statement+create_assignment+declared+elements+entries+expression+first_entries+indexed+kept+list+live_class+member+parameter+parameters+program+queue+record+records+transform_class+transform_decorators_of_parameters.Lts-records as records-lts
+use Rattle.transform.proofs.+bare+call+calls+class_body+class_statement+create_assignment+elements+entries+expression+first_entries+indexed+kept+list+live_class+member+parameter+parameters+plain+program+queue+record+records+transform_class+transform_decorators_of_parameters.Lts-records as records-lts
 use Rattle.transform.proofs.transform_class.Reads as transform-class
 use Rattle.transform.proofs.transform_class.Kinds as transform-class-kinds
-use Rattle.transform.proofs.+bare+call+calls+class_body+class_statement+create_assignment+declared+elements+entries+expression+first_entries+indexed+kept+list+live_class+member+parameter+parameters+program+queue+record+records+transform_class+transform_decorators_of_parameters.Lts-transform_class as transform-class-lts
+use Rattle.transform.proofs.+bare+call+calls+class_body+class_statement+create_assignment+elements+entries+expression+first_entries+indexed+kept+list+live_class+member+parameter+parameters+plain+program+queue+record+records+transform_class+transform_decorators_of_parameters.Lts-transform_class as transform-class-lts
 use Rattle.transform.proofs.transform_decorators_of_parameters.Reads as transform-decorators-of-parameters
 use Rattle.transform.proofs.transform_decorators_of_parameters.Kinds as transform-decorators-of-parameters-kinds
-use Rattle.transform.proofs.+bare+call+calls+class_body+class_statement+create_assignment+declared+elements+entries+expression+first_entries+indexed+kept+list+live_class+member+parameter+parameters+program+queue+record+records+transform_class+transform_decorators_of_parameters.Lts-transform_decorators_of_parameters as transform-decorators-of-parameters-lts
+use Rattle.transform.proofs.+bare+call+calls+class_body+class_statement+create_assignment+elements+entries+expression+first_entries+indexed+kept+list+live_class+member+parameter+parameters+plain+program+queue+record+records+transform_class+transform_decorators_of_parameters.Lts-transform_decorators_of_parameters as transform-decorators-of-parameters-lts
 use Rattle.counter.proofs.count_record.Reads as count-record-reads
 use Rattle.counter.proofs.count_records.Reads as count-records-reads
 use Rattle.inspect.proofs.children_at.Reads as children-at-reads
@@ -153,13 +153,14 @@ use Rattle.transform.proofs.class_words.Reads as class-words-reads
 use Rattle.transform.proofs.create_export.Reads as create-export-reads
 use Rattle.transform.proofs.export_count.Reads as export-count-reads
 use Rattle.transform.proofs.front_count.Reads as front-count-reads
+use Rattle.transform.proofs.is_plain.Reads as is-plain-reads
 use Rattle.transform.proofs.key_assignment.Reads as key-assignment-reads
 use Rattle.transform.proofs.plan_at.Reads as plan-at-reads
 use Rattle.transform.proofs.put.Reads as put-reads
-use Rattle.transform.proofs.+bare+call+calls+class_body+class_statement+create_assignment+declared+elements+entries+expression+first_entries+indexed+kept+list+live_class+member+parameter+parameters+program+queue+record+records+transform_class+transform_decorators_of_parameters.{
+use Rattle.transform.proofs.+bare+call+calls+class_body+class_statement+create_assignment+elements+entries+expression+first_entries+indexed+kept+list+live_class+member+parameter+parameters+plain+program+queue+record+records+transform_class+transform_decorators_of_parameters.{
   statement,
 }
-use Rattle.transform.proofs.+bare+call+calls+class_body+class_statement+create_assignment+declared+elements+entries+expression+first_entries+indexed+kept+list+live_class+member+parameter+parameters+program+queue+record+records+transform_class+transform_decorators_of_parameters.Tie.{
+use Rattle.transform.proofs.+bare+call+calls+class_body+class_statement+create_assignment+elements+entries+expression+first_entries+indexed+kept+list+live_class+member+parameter+parameters+plain+program+queue+record+records+transform_class+transform_decorators_of_parameters.Tie.{
   close,
 }
 
@@ -180,9 +181,6 @@ abbrev μ-class-statement : Measures 3 class-statement-kinds.ps ℕ
 
 abbrev μ-create-assignment : Measures 3 create-assignment-kinds.ps ℕ
 μ-create-assignment κs a = 64 * (length (a .0 .now) - a .1 .1 .0) + 23
-
-abbrev μ-declared : Measures 3 declared-kinds.ps ℕ
-μ-declared κs a = 64 * (length (a .0 .now) - a .1 .1 .0) + 10
 
 abbrev μ-elements : Measures 3 elements-kinds.ps ℕ
 μ-elements κs a = 64 * (length (a .0 .now) - a .1 .1 .0) + 21
@@ -216,6 +214,9 @@ abbrev μ-parameter : Measures 3 parameter-kinds.ps ℕ
 
 abbrev μ-parameters : Measures 3 parameters-kinds.ps ℕ
 μ-parameters κs a = 64 * (length (a .0 .now) - a .1 .1 .0) + 28
+
+abbrev μ-plain : Measures 3 plain-kinds.ps ℕ
+μ-plain κs a = 64 * (length (a .0 .now) - a .1 .1 .0) + 10
 
 abbrev μ-program : Measures 3 program-kinds.ps ℕ
 μ-program κs a = 64 * (length (a .0 .now) - a .1 .1 .0) + 10
@@ -293,13 +294,6 @@ create-assignment-below t =
     create-assignment-kinds.ps
     (falls 3 create-assignment-kinds.ps _<_ μ-create-assignment t)
     create-assignment.Pre
-
-abbrev declared-at : ℕ → In 3 declared-kinds.ps
-declared-at t = and 3 declared-kinds.ps (is 3 declared-kinds.ps μ-declared t) declared.Pre
-
-abbrev declared-below : ℕ → In 3 declared-kinds.ps
-declared-below t =
-    and 3 declared-kinds.ps (falls 3 declared-kinds.ps _<_ μ-declared t) declared.Pre
 
 abbrev elements-at : ℕ → In 3 elements-kinds.ps
 elements-at t = and 3 elements-kinds.ps (is 3 elements-kinds.ps μ-elements t) elements.Pre
@@ -381,6 +375,13 @@ abbrev parameters-below : ℕ → In 3 parameters-kinds.ps
 parameters-below t =
     and 3 parameters-kinds.ps (falls 3 parameters-kinds.ps _<_ μ-parameters t) parameters.Pre
 
+abbrev plain-at : ℕ → In 3 plain-kinds.ps
+plain-at t = and 3 plain-kinds.ps (is 3 plain-kinds.ps μ-plain t) plain.Pre
+
+abbrev plain-below : ℕ → In 3 plain-kinds.ps
+plain-below t =
+    and 3 plain-kinds.ps (falls 3 plain-kinds.ps _<_ μ-plain t) plain.Pre
+
 abbrev program-at : ℕ → In 3 program-kinds.ps
 program-at t = and 3 program-kinds.ps (is 3 program-kinds.ps μ-program t) program.Pre
 
@@ -453,16 +454,13 @@ abbrev class-body-uses : ℕ → class-body-lts.Claims
 class-body-uses t = (children-at-reads.Asked, children-at-reads.Learnt, front-count-reads.Asked, front-count-reads.Learnt, block-count-reads.Asked, block-count-reads.Learnt, put-reads.Asked, put-reads.Learnt, alias-block-reads.Asked, alias-block-reads.Learnt, body-stack-reads.Asked, body-stack-reads.Learnt, elements-below t, elements.Post, calls-below t, calls.Post)
 
 abbrev class-statement-uses : ℕ → class-statement-lts.Claims
-class-statement-uses t = (is-live-reads.Asked, is-live-reads.Learnt, live-class-below t, live-class.Post, declared-below t, declared.Post)
+class-statement-uses t = (is-live-reads.Asked, is-live-reads.Learnt, is-plain-reads.Asked, is-plain-reads.Learnt, plain-below t, plain.Post, live-class-below t, live-class.Post)
 
 abbrev create-assignment-uses : ℕ → create-assignment-lts.Claims
 create-assignment-uses t = (assignment-head-reads.Asked, assignment-head-reads.Learnt, children-at-reads.Asked, children-at-reads.Learnt, records-below t, records.Post, body-stack-reads.Asked, body-stack-reads.Learnt, first-entries-below t, first-entries.Post, put-reads.Asked, put-reads.Learnt)
 
-abbrev declared-uses : ℕ → declared-lts.Claims
-declared-uses t = (class-id-reads.Asked, class-id-reads.Learnt, kind-at-reads.Asked, kind-at-reads.Learnt, payload-at-reads.Asked, payload-at-reads.Learnt, put-reads.Asked, put-reads.Learnt, records-below t, records.Post)
-
 abbrev elements-uses : ℕ → elements-lts.Claims
-elements-uses t = (children-at-reads.Asked, children-at-reads.Learnt, first-constructor-reads.Asked, first-constructor-reads.Learnt, records-below t, records.Post, member-below t, member.Post)
+elements-uses t = (children-at-reads.Asked, children-at-reads.Learnt, records-below t, records.Post, first-constructor-reads.Asked, first-constructor-reads.Learnt, member-below t, member.Post)
 
 abbrev entries-uses : ℕ → entries-lts.Claims
 entries-uses t = (children-at-reads.Asked, children-at-reads.Learnt, records-below t, records.Post, kind-at-reads.Asked, kind-at-reads.Learnt, count-records-reads.Asked, count-records-reads.Learnt, transform-decorators-of-parameters-below t, transform-decorators-of-parameters.Post)
@@ -494,6 +492,9 @@ parameter-uses t = (count-record-reads.Asked, count-record-reads.Learnt, payload
 abbrev parameters-uses : ℕ → parameters-lts.Claims
 parameters-uses t = (children-at-reads.Asked, children-at-reads.Learnt, payload-at-reads.Asked, payload-at-reads.Learnt, put-reads.Asked, put-reads.Learnt, parameter-below t, parameter.Post)
 
+abbrev plain-uses : ℕ → plain-lts.Claims
+plain-uses t = (class-id-reads.Asked, class-id-reads.Learnt, kind-at-reads.Asked, kind-at-reads.Learnt, payload-at-reads.Asked, payload-at-reads.Learnt, put-reads.Asked, put-reads.Learnt, records-below t, records.Post)
+
 abbrev program-uses : ℕ → program-lts.Claims
 program-uses t = (payload-at-reads.Asked, payload-at-reads.Learnt, records-below t, records.Post, put-reads.Asked, put-reads.Learnt)
 
@@ -502,6 +503,9 @@ queue-uses t = (children-at-reads.Asked, children-at-reads.Learnt, count-records
 
 abbrev record-uses : ℕ → record-lts.Claims
 record-uses t = (copied-reads.Asked, copied-reads.Learnt, kind-at-reads.Asked, kind-at-reads.Learnt, program-below t, program.Post, list-below t, list.Post, class-statement-below t, class-statement.Post, expression-below t, expression.Post, word-at-reads.Asked, word-at-reads.Learnt, is-constructor-reads.Asked, is-constructor-reads.Learnt, kept-below t, kept.Post, member-below t, member.Post)
+
+abbrev records-uses : ℕ → records-lts.Claims
+records-uses t = (copied-reads.Asked, copied-reads.Learnt, record-below t, record.Post)
 
 abbrev transform-class-uses : ℕ → transform-class-lts.Claims
 transform-class-uses t = (payload-at-reads.Asked, payload-at-reads.Learnt, class-words-reads.Asked, class-words-reads.Learnt, count-records-reads.Asked, count-records-reads.Learnt, records-below t, records.Post, class-body-below t, class-body.Post)
@@ -879,27 +883,43 @@ class-statement-add-is-live t c = omega (arith, c .before .before .before .pre .
 class-statement-is-live-requires : (t : ℕ) → class-statement-lts.Need-is-live-requires (class-statement-uses t) (class-statement-at t) class-statement.Post
 class-statement-is-live-requires t c κs = search needs
 
-class-statement-live-class-requires : (t : ℕ) → class-statement-lts.Need-live-class-requires (class-statement-uses t) (class-statement-at t) class-statement.Post
-class-statement-live-class-requires t c κs =
-    let f = c .before .before .before .before .before .before .pre .1 in
-    (omega (arith, c .before .before .before .before .before .before .pre .0), (f .0, f .1, f .2, sym (c .before .before .is-live .ensures) ∙ c .before .if1 .taken))
+class-statement-is-plain-requires : (t : ℕ) → class-statement-lts.Need-is-plain-requires (class-statement-uses t) (class-statement-at t) class-statement.Post
+class-statement-is-plain-requires t c κs =
+    let f = c .before .before .before .before .before .pre .1 in
+    (f .0 .ready .planned, f .0 .ready .whole, f .1, f .2)
+
+class-statement-plain-requires : (t : ℕ) → class-statement-lts.Need-plain-requires (class-statement-uses t) (class-statement-at t) class-statement.Post
+class-statement-plain-requires t c κs =
+    let f = c .before .before .before .before .before .before .before .before .pre .1 in
+    (omega (arith, c .before .before .before .before .before .before .before .before .pre .0), (f .0, f .1, f .2, sym (c .before .before .before .before .is-live .ensures) ∙ c .before .before .before .if1 .taken, λ _. sym (c .before .before .is-plain .ensures) ∙ c .before .if2 .taken))
 
 class-statement-same-length : (t : ℕ) → class-statement-lts.Need-same-length (class-statement-uses t) (class-statement-at t) class-statement.Post
-class-statement-same-length t c = c .before .before .live-class .kept .1 .1 .1 .1 .1 .1 .0
+class-statement-same-length t c = c .before .before .plain .kept .1 .1 .1 .1 .1 .1 .1 .0
 
 class-statement-returns : (t : ℕ) → class-statement-lts.Need-returns (class-statement-uses t) (class-statement-at t) class-statement.Post
-class-statement-returns t c = c .before .before .live-class .ensures
+class-statement-returns t c = c .before .before .plain .ensures
 
-class-statement-declared-requires : (t : ℕ) → class-statement-lts.Need-declared-requires (class-statement-uses t) (class-statement-at t) class-statement.Post
-class-statement-declared-requires t c κs =
-    let f = c .before .before .before .before .before .before .pre .1 in
-    (omega (arith, c .before .before .before .before .before .before .pre .0), (f .0, f .1, f .2, sym (c .before .before .is-live .ensures) ∙ c .before .if1 .left))
+class-statement-live-class-requires : (t : ℕ) → class-statement-lts.Need-live-class-requires (class-statement-uses t) (class-statement-at t) class-statement.Post
+class-statement-live-class-requires t c κs =
+    let f = c .before .before .before .before .before .before .before .before .pre .1 in
+    (omega (arith, c .before .before .before .before .before .before .before .before .pre .0), (f .0, f .1, f .2, sym (c .before .before .before .before .is-live .ensures) ∙ c .before .before .before .if1 .taken))
 
 class-statement-same-length-2 : (t : ℕ) → class-statement-lts.Need-same-length-2 (class-statement-uses t) (class-statement-at t) class-statement.Post
-class-statement-same-length-2 t c = c .before .before .declared .kept .1 .1 .1 .1 .1 .1 .0
+class-statement-same-length-2 t c = c .before .before .live-class .kept .1 .1 .1 .1 .1 .1 .0
 
 class-statement-returns-2 : (t : ℕ) → class-statement-lts.Need-returns-2 (class-statement-uses t) (class-statement-at t) class-statement.Post
-class-statement-returns-2 t c = c .before .before .declared .ensures
+class-statement-returns-2 t c = c .before .before .live-class .ensures
+
+class-statement-plain-requires-2 : (t : ℕ) → class-statement-lts.Need-plain-requires-2 (class-statement-uses t) (class-statement-at t) class-statement.Post
+class-statement-plain-requires-2 t c κs =
+    let f = c .before .before .before .before .before .before .pre .1 in
+    (omega (arith, c .before .before .before .before .before .before .pre .0), (f .0, f .1, f .2, sym (c .before .before .is-live .ensures) ∙ c .before .if1 .left, λ e. absurd (false≢true e)))
+
+class-statement-same-length-3 : (t : ℕ) → class-statement-lts.Need-same-length-3 (class-statement-uses t) (class-statement-at t) class-statement.Post
+class-statement-same-length-3 t c = c .before .before .plain2 .kept .1 .1 .1 .1 .1 .1 .1 .0
+
+class-statement-returns-3 : (t : ℕ) → class-statement-lts.Need-returns-3 (class-statement-uses t) (class-statement-at t) class-statement.Post
+class-statement-returns-3 t c = c .before .before .plain2 .ensures
 
 create-assignment-assignment-head-requires : (t : ℕ) → create-assignment-lts.Need-assignment-head-requires (create-assignment-uses t) (create-assignment-at t) create-assignment.Post
 create-assignment-assignment-head-requires t c κs =
@@ -973,68 +993,30 @@ create-assignment-returns t c =
     let e = c .before .before .before .before .before .before .before .before .before .before .before .before .first-entries .ensures in
     assignment-wrote (c .before .before .before .before .before .before .before .before .before .before .before .before .before .before .before .before .before .before .before .before .before .before .before .before .before .before .before .args .s) (p .0) (p .1) (p .2) (p .4) (p .6) (p .7) (c .before .before .before .before .before .before .before .before .before .before .before .before .before .before .before .before .before .before .before .children-at .result) (c .before .before .before .before .before .before .before .before .before .before .before .before .before .before .before .before .before .before .before .children-at .ensures .0) (c .before .before .before .before .before .before .before .before .before .before .before .before .before .before .before .before .before .before .before .before .before .before .assignment-head .ensures) (c .before .before .before .before .before .before .before .before .before .before .before .before .before .before .before .before .before .records .ensures) (c .before .before .before .before .before .before .before .before .before .before .before .before .before .before .body-stack .result) (c .before .before .before .before .before .before .before .before .before .before .before .before .before .before .body-stack .ensures .2) (e .0) (e .1) (c .before .before .before .before .before .before .put .ensures) (c .before .before .put2 .ensures)
 
-declared-add-class-id : (t : ℕ) → declared-lts.Need-add-class-id (declared-uses t) (declared-at t) declared.Post
-declared-add-class-id t c = omega (arith, c .before .before .before .pre .1 .1, c .before .before .before .pre .1 .0 .ready .few)
-
-declared-class-id-requires : (t : ℕ) → declared-lts.Need-class-id-requires (declared-uses t) (declared-at t) declared.Post
-declared-class-id-requires t c κs = c .before .before .before .pre .1 .0 .ready .planned .ends
-
-declared-kind-at-requires : (t : ℕ) → declared-lts.Need-kind-at-requires (declared-uses t) (declared-at t) declared.Post
-declared-kind-at-requires t c κs = search needs
-
-declared-payload-at-requires : (t : ℕ) → declared-lts.Need-payload-at-requires (declared-uses t) (declared-at t) declared.Post
-declared-payload-at-requires t c κs = search needs
-
-declared-put-requires : (t : ℕ) → declared-lts.Need-put-requires (declared-uses t) (declared-at t) declared.Post
-declared-put-requires t c κs =
-    let g = c .before .before .before .before .before .before .before .args in
-    let f = c .before .before .before .before .before .before .before .pre .1 in
-    (f .0 .stack, omega (arith, f .0 .fit), kind-small (g .ws .now) (g .at) (c .before .before .kind-at .result) (c .before .before .kind-at .ensures) (omega (arith, c .before .before .before .before .before .before .shared-slice-known .given (g .at))), c .before .payload-at .ensures .1)
-
-declared-add-records : (t : ℕ) → declared-lts.Need-add-records (declared-uses t) (declared-at t) declared.Post
-declared-add-records t c = omega (arith, c .before .before .before .before .before .before .before .before .before .before .pre .1 .1, c .before .before .before .before .before .before .before .before .before .before .pre .1 .0 .ready .few)
-
-declared-records-requires : (t : ℕ) → declared-lts.Need-records-requires (declared-uses t) (declared-at t) declared.Post
-declared-records-requires t c κs =
-    let g = c .before .before .before .before .before .before .before .before .before .before .before .args in
-    let f = c .before .before .before .before .before .before .before .before .before .before .before .pre .1 in
-    let b : Scope = record { live = false; id = c .before .before .before .before .before .before .before .class-id .result } in
-    let t : Count = record { next = g .s .next; default = 67108864 } in
-    (omega (arith, c .before .before .before .before .before .before .before .before .before .before .before .pre .0, f .1), asks-one (f .0) (class-one (g .ws .now) (f .0 .ready .whole) (g .at) (f .1) (f .2)) (c .before .before .before .put .result) (size (hereAt (g .ws .now) (g .at + 1) 1 b t)) (f .1) (omega (arith, f .0 .fit, declared-size (g .ws .now) (g .at) (g .a) (g .s) (g .c) (f .1) (f .0 .ready .whole) (f .2) (f .3) b refl (c .before .before .before .before .before .before .before .class-id .ensures .0), c .before .before .before .put .ensures .end)))
-
-declared-same-length : (t : ℕ) → declared-lts.Need-same-length (declared-uses t) (declared-at t) declared.Post
-declared-same-length t c = c .before .before .records .kept .1 .1 .1 .1 .1 .1 .1 .0 ∙ c .before .before .before .before .before .before .put .kept .1 .1 .1 .0
-
-declared-returns : (t : ℕ) → declared-lts.Need-returns (declared-uses t) (declared-at t) declared.Post
-declared-returns t c =
-    let g = c .before .before .before .before .before .before .before .before .before .before .before .before .before .before .args in
-    let f = c .before .before .before .before .before .before .before .before .before .before .before .before .before .before .pre .1 in
-    emit-declared (g .ws .now) (g .at) (g .a) (g .s) (g .c) (f .1) (f .0 .ready .whole) (f .2) (f .3) (record { live = false; id = c .before .before .before .before .before .before .before .before .before .before .class-id .result }) refl (c .before .before .before .before .before .before .before .before .before .before .class-id .ensures .0) (c .before .before .before .before .before .before .before .before .before .kind-at .result) (c .before .before .before .before .before .before .before .before .payload-at .result) (c .before .before .before .before .before .before .before .before .before .kind-at .ensures) (c .before .before .before .before .before .before .before .before .payload-at .ensures .0) (c .before .before .before .before .before .before .put .ensures) (c .before .before .records .ensures)
-
 elements-children-at-requires : (t : ℕ) → elements-lts.Need-children-at-requires (elements-uses t) (elements-at t) elements.Post
 elements-children-at-requires t c κs = search needs
 
 elements-add-first-constructor : (t : ℕ) → elements-lts.Need-add-first-constructor (elements-uses t) (elements-at t) elements.Post
-elements-add-first-constructor t c = omega (arith, c .before .before .before .before .pre .1 .1, c .before .before .before .before .pre .1 .0 .ready .few)
+elements-add-first-constructor t c = omega (arith, c .before .before .before .before .before .before .pre .1 .1, c .before .before .before .before .before .before .pre .1 .0 .ready .few)
 
 elements-first-constructor-requires : (t : ℕ) → elements-lts.Need-first-constructor-requires (elements-uses t) (elements-at t) elements.Post
-elements-first-constructor-requires t c κs = c .before .before .before .before .pre .1 .0 .ready .planned .ends
+elements-first-constructor-requires t c κs = c .before .before .before .before .before .before .pre .1 .0 .ready .planned .ends
 
 elements-add-records : (t : ℕ) → elements-lts.Need-add-records (elements-uses t) (elements-at t) elements.Post
-elements-add-records t c = omega (arith, c .before .before .before .before .before .before .before .pre .1 .1, c .before .before .before .before .before .before .before .pre .1 .0 .ready .few)
+elements-add-records t c = omega (arith, c .before .before .before .before .before .before .pre .1 .1, c .before .before .before .before .before .before .pre .1 .0 .ready .few)
 
 elements-records-requires : (t : ℕ) → elements-lts.Need-records-requires (elements-uses t) (elements-at t) elements.Post
 elements-records-requires t c κs =
-    let p = c .before .before .before .before .before .before .before .before .pre .1 in
-    (omega (arith, c .before .before .before .before .before .before .before .before .pre .0, p .1), elements-asks (c .before .before .before .before .before .before .before .before .args .g) (c .before .before .before .before .before .before .before .before .args .s) (p .0) (p .1) (p .2) (c .before .before .before .before .children-at .result) (c .before .before .before .before .children-at .ensures .0) (elements-plain (c .before .before .before .before .before .before .before .before .args .g) (c .before .before .before .before .before .before .before .before .args .s) (p .0) (p .1) (p .2) (not-true _ (c .before .if1 .taken))))
+    let p = c .before .before .before .before .before .before .before .pre .1 in
+    (omega (arith, c .before .before .before .before .before .before .before .pre .0, p .1), elements-asks (c .before .before .before .before .before .before .before .args .g) (c .before .before .before .before .before .before .before .args .s) (p .0) (p .1) (p .2) (c .before .before .before .children-at .result) (c .before .before .before .children-at .ensures .0) (elements-plain (c .before .before .before .before .before .before .before .args .g) (c .before .before .before .before .before .before .before .args .s) (p .0) (p .1) (p .2) (not-true _ (c .before .if1 .taken))))
 
 elements-same-length : (t : ℕ) → elements-lts.Need-same-length (elements-uses t) (elements-at t) elements.Post
 elements-same-length t c = c .before .before .records .kept .1 .1 .1 .1 .1 .1 .1 .0
 
 elements-returns : (t : ℕ) → elements-lts.Need-returns (elements-uses t) (elements-at t) elements.Post
 elements-returns t c =
-    let p = c .before .before .before .before .before .before .before .before .before .before .before .pre .1 in
-    elements-wrote (c .before .before .before .before .before .before .before .before .before .before .before .args .g) (c .before .before .before .before .before .before .before .before .before .before .before .args .s) (p .0) (p .1) (p .2) (c .before .before .before .before .before .before .before .children-at .result) (c .before .before .before .before .before .before .before .children-at .ensures .0) (elements-plain (c .before .before .before .before .before .before .before .before .before .before .before .args .g) (c .before .before .before .before .before .before .before .before .before .before .before .args .s) (p .0) (p .1) (p .2) (not-true _ (c .before .before .before .before .if1 .taken))) (c .before .before .records .ensures)
+    let p = c .before .before .before .before .before .before .before .before .before .before .pre .1 in
+    elements-wrote (c .before .before .before .before .before .before .before .before .before .before .args .g) (c .before .before .before .before .before .before .before .before .before .before .args .s) (p .0) (p .1) (p .2) (c .before .before .before .before .before .before .children-at .result) (c .before .before .before .before .before .before .children-at .ensures .0) (elements-plain (c .before .before .before .before .before .before .before .before .before .before .args .g) (c .before .before .before .before .before .before .before .before .before .before .args .s) (p .0) (p .1) (p .2) (not-true _ (c .before .before .before .before .if1 .taken))) (c .before .before .records .ensures)
 
 elements-add-records-2 : (t : ℕ) → elements-lts.Need-add-records-2 (elements-uses t) (elements-at t) elements.Post
 elements-add-records-2 t c = omega (arith, c .before .before .before .before .before .before .before .before .pre .1 .1, c .before .before .before .before .before .before .before .before .pre .1 .0 .ready .few)
@@ -1042,8 +1024,8 @@ elements-add-records-2 t c = omega (arith, c .before .before .before .before .be
 elements-records-requires-2 : (t : ℕ) → elements-lts.Need-records-requires-2 (elements-uses t) (elements-at t) elements.Post
 elements-records-requires-2 t c κs =
     let p = c .before .before .before .before .before .before .before .before .before .pre .1 in
-    let n = no-constructor (c .before .before .before .before .before .before .before .before .before .args .ws .now) (c .before .before .before .before .before .before .before .before .before .args .b) (c .before .before .before .before .before .children-at .result) (c .before .before .before .before .first-constructor .result) (c .before .before .before .before .before .children-at .ensures .0) (c .before .before .before .before .first-constructor .ensures) (c .before .if2 .taken) in
-    (omega (arith, c .before .before .before .before .before .before .before .before .before .pre .0, p .1), elements-asks (c .before .before .before .before .before .before .before .before .before .args .g) (c .before .before .before .before .before .before .before .before .before .args .s) (p .0) (p .1) (p .2) (c .before .before .before .before .before .children-at .result) (c .before .before .before .before .before .children-at .ensures .0) (elements-none (c .before .before .before .before .before .before .before .before .before .args .g) (c .before .before .before .before .before .before .before .before .before .args .s) (p .0) (p .1) (p .2) (not-false _ (c .before .before .if1 .left)) n))
+    let n = no-constructor (c .before .before .before .before .before .before .before .before .before .args .ws .now) (c .before .before .before .before .before .before .before .before .before .args .b) (c .before .before .before .before .before .children-at .result) (c .before .before .first-constructor .result) (c .before .before .before .before .before .children-at .ensures .0) (c .before .before .first-constructor .ensures) (c .before .if2 .taken) in
+    (omega (arith, c .before .before .before .before .before .before .before .before .before .pre .0, p .1), elements-asks (c .before .before .before .before .before .before .before .before .before .args .g) (c .before .before .before .before .before .before .before .before .before .args .s) (p .0) (p .1) (p .2) (c .before .before .before .before .before .children-at .result) (c .before .before .before .before .before .children-at .ensures .0) (elements-none (c .before .before .before .before .before .before .before .before .before .args .g) (c .before .before .before .before .before .before .before .before .before .args .s) (p .0) (p .1) (p .2) (not-false _ (c .before .before .before .if1 .left)) n))
 
 elements-same-length-2 : (t : ℕ) → elements-lts.Need-same-length-2 (elements-uses t) (elements-at t) elements.Post
 elements-same-length-2 t c = c .before .before .records2 .kept .1 .1 .1 .1 .1 .1 .1 .0
@@ -1051,8 +1033,8 @@ elements-same-length-2 t c = c .before .before .records2 .kept .1 .1 .1 .1 .1 .1
 elements-returns-2 : (t : ℕ) → elements-lts.Need-returns-2 (elements-uses t) (elements-at t) elements.Post
 elements-returns-2 t c =
     let p = c .before .before .before .before .before .before .before .before .before .before .before .before .pre .1 in
-    let n = no-constructor (c .before .before .before .before .before .before .before .before .before .before .before .before .args .ws .now) (c .before .before .before .before .before .before .before .before .before .before .before .before .args .b) (c .before .before .before .before .before .before .before .before .children-at .result) (c .before .before .before .before .before .before .before .first-constructor .result) (c .before .before .before .before .before .before .before .before .children-at .ensures .0) (c .before .before .before .before .before .before .before .first-constructor .ensures) (c .before .before .before .before .if2 .taken) in
-    elements-wrote (c .before .before .before .before .before .before .before .before .before .before .before .before .args .g) (c .before .before .before .before .before .before .before .before .before .before .before .before .args .s) (p .0) (p .1) (p .2) (c .before .before .before .before .before .before .before .before .children-at .result) (c .before .before .before .before .before .before .before .before .children-at .ensures .0) (elements-none (c .before .before .before .before .before .before .before .before .before .before .before .before .args .g) (c .before .before .before .before .before .before .before .before .before .before .before .before .args .s) (p .0) (p .1) (p .2) (not-false _ (c .before .before .before .before .before .if1 .left)) n) (c .before .before .records2 .ensures)
+    let n = no-constructor (c .before .before .before .before .before .before .before .before .before .before .before .before .args .ws .now) (c .before .before .before .before .before .before .before .before .before .before .before .before .args .b) (c .before .before .before .before .before .before .before .before .children-at .result) (c .before .before .before .before .before .first-constructor .result) (c .before .before .before .before .before .before .before .before .children-at .ensures .0) (c .before .before .before .before .before .first-constructor .ensures) (c .before .before .before .before .if2 .taken) in
+    elements-wrote (c .before .before .before .before .before .before .before .before .before .before .before .before .args .g) (c .before .before .before .before .before .before .before .before .before .before .before .before .args .s) (p .0) (p .1) (p .2) (c .before .before .before .before .before .before .before .before .children-at .result) (c .before .before .before .before .before .before .before .before .children-at .ensures .0) (elements-none (c .before .before .before .before .before .before .before .before .before .before .before .before .args .g) (c .before .before .before .before .before .before .before .before .before .before .before .before .args .s) (p .0) (p .1) (p .2) (not-false _ (c .before .before .before .before .before .before .if1 .left)) n) (c .before .before .records2 .ensures)
 
 elements-add-records-3 : (t : ℕ) → elements-lts.Need-add-records-3 (elements-uses t) (elements-at t) elements.Post
 elements-add-records-3 t c = omega (arith, c .before .before .before .before .before .before .before .before .pre .1 .1, c .before .before .before .before .before .before .before .before .pre .1 .0 .ready .few)
@@ -1060,16 +1042,16 @@ elements-add-records-3 t c = omega (arith, c .before .before .before .before .be
 elements-records-requires-3 : (t : ℕ) → elements-lts.Need-records-requires-3 (elements-uses t) (elements-at t) elements.Post
 elements-records-requires-3 t c κs =
     let p = c .before .before .before .before .before .before .before .before .before .pre .1 in
-    let n = first-at (c .before .before .before .before .before .before .before .before .before .args .ws .now) (c .before .before .before .before .before .before .before .before .before .args .b) (c .before .before .before .before .before .children-at .result) (c .before .before .before .before .first-constructor .result) (c .before .before .before .before .before .children-at .ensures .0) (c .before .before .before .before .first-constructor .ensures) (c .before .if2 .left) in
-    (omega (arith, c .before .before .before .before .before .before .before .before .before .pre .0, p .1), before-asks (c .before .before .before .before .before .before .before .before .before .args .g) (c .before .before .before .before .before .before .before .before .before .args .s) (p .0) (p .1) (p .2) (not-false _ (c .before .before .if1 .left)) (c .before .before .before .before .before .children-at .result) (c .before .before .before .before .first-constructor .result) (c .before .before .before .before .before .children-at .ensures .0) n)
+    let n = first-at (c .before .before .before .before .before .before .before .before .before .args .ws .now) (c .before .before .before .before .before .before .before .before .before .args .b) (c .before .before .before .before .before .children-at .result) (c .before .before .first-constructor .result) (c .before .before .before .before .before .children-at .ensures .0) (c .before .before .first-constructor .ensures) (c .before .if2 .left) in
+    (omega (arith, c .before .before .before .before .before .before .before .before .before .pre .0, p .1), before-asks (c .before .before .before .before .before .before .before .before .before .args .g) (c .before .before .before .before .before .before .before .before .before .args .s) (p .0) (p .1) (p .2) (not-false _ (c .before .before .before .if1 .left)) (c .before .before .before .before .before .children-at .result) (c .before .before .first-constructor .result) (c .before .before .before .before .before .children-at .ensures .0) n)
 
 elements-member-requires : (t : ℕ) → elements-lts.Need-member-requires (elements-uses t) (elements-at t) elements.Post
 elements-member-requires t c κs =
     let p = c .before .before .before .before .before .before .before .before .before .before .before .before .before .pre .1 in
-    let n = first-at (c .before .before .before .before .before .before .before .before .before .before .before .before .before .args .ws .now) (c .before .before .before .before .before .before .before .before .before .before .before .before .before .args .b) (c .before .before .before .before .before .before .before .before .before .children-at .result) (c .before .before .before .before .before .before .before .before .first-constructor .result) (c .before .before .before .before .before .before .before .before .before .children-at .ensures .0) (c .before .before .before .before .before .before .before .before .first-constructor .ensures) (c .before .before .before .before .before .if2 .left) in
-    let i = constructor-inside (c .before .before .before .before .before .before .before .before .before .before .before .before .before .args .g) (c .before .before .before .before .before .before .before .before .before .before .before .before .before .args .s) (p .0) (p .1) (p .2) (not-false _ (c .before .before .before .before .before .before .if1 .left)) (c .before .before .before .before .before .before .before .before .before .children-at .result) (c .before .before .before .before .before .before .before .before .first-constructor .result) (c .before .before .before .before .before .before .before .before .before .children-at .ensures .0) n (c .before .before .before .records3 .ensures) in (
-      omega (arith, c .before .before .before .before .before .before .before .before .before .before .before .before .before .pre .0, p .1, c .before .before .before .records3 .ensures .moved .place, end-low (c .before .before .before .before .before .before .before .before .before .before .before .before .before .args .ws .now) (c .before .before .before .before .before .before .before .before .before .before .before .before .before .args .b + 1) (c .before .before .before .before .before .before .before .before .first-constructor .result)),
-      (constructor-asks (c .before .before .before .before .before .before .before .before .before .before .before .before .before .args .g) (c .before .before .before .before .before .before .before .before .before .before .before .before .before .args .s) (p .0) (p .1) (p .2) (not-false _ (c .before .before .before .before .before .before .if1 .left)) (c .before .before .before .before .before .before .before .before .before .children-at .result) (c .before .before .before .before .before .before .before .before .first-constructor .result) (c .before .before .before .before .before .before .before .before .before .children-at .ensures .0) n (c .before .before .before .records3 .ensures), i .0, i .1),
+    let n = first-at (c .before .before .before .before .before .before .before .before .before .before .before .before .before .args .ws .now) (c .before .before .before .before .before .before .before .before .before .before .before .before .before .args .b) (c .before .before .before .before .before .before .before .before .before .children-at .result) (c .before .before .before .before .before .before .first-constructor .result) (c .before .before .before .before .before .before .before .before .before .children-at .ensures .0) (c .before .before .before .before .before .before .first-constructor .ensures) (c .before .before .before .before .before .if2 .left) in
+    let i = constructor-inside (c .before .before .before .before .before .before .before .before .before .before .before .before .before .args .g) (c .before .before .before .before .before .before .before .before .before .before .before .before .before .args .s) (p .0) (p .1) (p .2) (not-false _ (c .before .before .before .before .before .before .before .if1 .left)) (c .before .before .before .before .before .before .before .before .before .children-at .result) (c .before .before .before .before .before .before .first-constructor .result) (c .before .before .before .before .before .before .before .before .before .children-at .ensures .0) n (c .before .before .before .records3 .ensures) in (
+      omega (arith, c .before .before .before .before .before .before .before .before .before .before .before .before .before .pre .0, p .1, c .before .before .before .records3 .ensures .moved .place, end-low (c .before .before .before .before .before .before .before .before .before .before .before .before .before .args .ws .now) (c .before .before .before .before .before .before .before .before .before .before .before .before .before .args .b + 1) (c .before .before .before .before .before .before .first-constructor .result)),
+      (constructor-asks (c .before .before .before .before .before .before .before .before .before .before .before .before .before .args .g) (c .before .before .before .before .before .before .before .before .before .before .before .before .before .args .s) (p .0) (p .1) (p .2) (not-false _ (c .before .before .before .before .before .before .before .if1 .left)) (c .before .before .before .before .before .before .before .before .before .children-at .result) (c .before .before .before .before .before .before .first-constructor .result) (c .before .before .before .before .before .before .before .before .before .children-at .ensures .0) n (c .before .before .before .records3 .ensures), i .0, i .1),
     )
 
 elements-sub-records : (t : ℕ) → elements-lts.Need-sub-records (elements-uses t) (elements-at t) elements.Post
@@ -1081,9 +1063,9 @@ elements-sub-records-2 t c = omega (arith, c .before .before .before .before .be
 elements-records-requires-4 : (t : ℕ) → elements-lts.Need-records-requires-4 (elements-uses t) (elements-at t) elements.Post
 elements-records-requires-4 t c κs =
     let p = c .before .before .before .before .before .before .before .before .before .before .before .before .before .before .before .before .before .pre .1 in
-    let n = first-at (c .before .before .before .before .before .before .before .before .before .before .before .before .before .before .before .before .before .args .ws .now) (c .before .before .before .before .before .before .before .before .before .before .before .before .before .before .before .before .before .args .b) (c .before .before .before .before .before .before .before .before .before .before .before .before .before .children-at .result) (c .before .before .before .before .before .before .before .before .before .before .before .before .first-constructor .result) (c .before .before .before .before .before .before .before .before .before .before .before .before .before .children-at .ensures .0) (c .before .before .before .before .before .before .before .before .before .before .before .before .first-constructor .ensures) (c .before .before .before .before .before .before .before .before .before .if2 .left) in (
-      omega (arith, c .before .before .before .before .before .before .before .before .before .before .before .before .before .before .before .before .before .pre .0, p .1, c .before .before .before .before .before .before .before .records3 .ensures .moved .place, end-low (c .before .before .before .before .before .before .before .before .before .before .before .before .before .before .before .before .before .args .ws .now) (c .before .before .before .before .before .before .before .before .before .before .before .before .before .before .before .before .before .args .b + 1) (c .before .before .before .before .before .before .before .before .before .before .before .before .first-constructor .result), c .before .before .before .member .ensures .0 .place, end-low (c .before .before .before .before .before .before .before .before .before .before .before .before .before .before .before .before .before .args .ws .now) (c .before .before .before .before .before .before .before .records3 .result .at) 1),
-      behind-asks (c .before .before .before .before .before .before .before .before .before .before .before .before .before .before .before .before .before .args .g) (c .before .before .before .before .before .before .before .before .before .before .before .before .before .before .before .before .before .args .s) (p .0) (p .1) (p .2) (not-false _ (c .before .before .before .before .before .before .before .before .before .before .if1 .left)) (c .before .before .before .before .before .before .before .before .before .before .before .before .before .children-at .result) (c .before .before .before .before .before .before .before .before .before .before .before .before .first-constructor .result) (c .before .before .before .before .before .before .before .before .before .before .before .before .before .children-at .ensures .0) n (c .before .before .before .before .before .before .before .records3 .ensures) (c .before .before .before .member .ensures .0),
+    let n = first-at (c .before .before .before .before .before .before .before .before .before .before .before .before .before .before .before .before .before .args .ws .now) (c .before .before .before .before .before .before .before .before .before .before .before .before .before .before .before .before .before .args .b) (c .before .before .before .before .before .before .before .before .before .before .before .before .before .children-at .result) (c .before .before .before .before .before .before .before .before .before .before .first-constructor .result) (c .before .before .before .before .before .before .before .before .before .before .before .before .before .children-at .ensures .0) (c .before .before .before .before .before .before .before .before .before .before .first-constructor .ensures) (c .before .before .before .before .before .before .before .before .before .if2 .left) in (
+      omega (arith, c .before .before .before .before .before .before .before .before .before .before .before .before .before .before .before .before .before .pre .0, p .1, c .before .before .before .before .before .before .before .records3 .ensures .moved .place, end-low (c .before .before .before .before .before .before .before .before .before .before .before .before .before .before .before .before .before .args .ws .now) (c .before .before .before .before .before .before .before .before .before .before .before .before .before .before .before .before .before .args .b + 1) (c .before .before .before .before .before .before .before .before .before .before .first-constructor .result), c .before .before .before .member .ensures .0 .place, end-low (c .before .before .before .before .before .before .before .before .before .before .before .before .before .before .before .before .before .args .ws .now) (c .before .before .before .before .before .before .before .records3 .result .at) 1),
+      behind-asks (c .before .before .before .before .before .before .before .before .before .before .before .before .before .before .before .before .before .args .g) (c .before .before .before .before .before .before .before .before .before .before .before .before .before .before .before .before .before .args .s) (p .0) (p .1) (p .2) (not-false _ (c .before .before .before .before .before .before .before .before .before .before .before .if1 .left)) (c .before .before .before .before .before .before .before .before .before .before .before .before .before .children-at .result) (c .before .before .before .before .before .before .before .before .before .before .first-constructor .result) (c .before .before .before .before .before .before .before .before .before .before .before .before .before .children-at .ensures .0) n (c .before .before .before .before .before .before .before .records3 .ensures) (c .before .before .before .member .ensures .0),
     )
 
 elements-same-length-3 : (t : ℕ) → elements-lts.Need-same-length-3 (elements-uses t) (elements-at t) elements.Post
@@ -1092,8 +1074,8 @@ elements-same-length-3 t c = c .before .before .records4 .kept .1 .1 .1 .1 .1 .1
 elements-returns-3 : (t : ℕ) → elements-lts.Need-returns-3 (elements-uses t) (elements-at t) elements.Post
 elements-returns-3 t c =
     let p = c .before .before .before .before .before .before .before .before .before .before .before .before .before .before .before .before .before .before .before .before .pre .1 in
-    let n = first-at (c .before .before .before .before .before .before .before .before .before .before .before .before .before .before .before .before .before .before .before .before .args .ws .now) (c .before .before .before .before .before .before .before .before .before .before .before .before .before .before .before .before .before .before .before .before .args .b) (c .before .before .before .before .before .before .before .before .before .before .before .before .before .before .before .before .children-at .result) (c .before .before .before .before .before .before .before .before .before .before .before .before .before .before .before .first-constructor .result) (c .before .before .before .before .before .before .before .before .before .before .before .before .before .before .before .before .children-at .ensures .0) (c .before .before .before .before .before .before .before .before .before .before .before .before .before .before .before .first-constructor .ensures) (c .before .before .before .before .before .before .before .before .before .before .before .before .if2 .left) in
-    bare-wrote (c .before .before .before .before .before .before .before .before .before .before .before .before .before .before .before .before .before .before .before .before .args .g) (c .before .before .before .before .before .before .before .before .before .before .before .before .before .before .before .before .before .before .before .before .args .s) (p .0) (p .1) (p .2) (not-false _ (c .before .before .before .before .before .before .before .before .before .before .before .before .before .if1 .left)) (c .before .before .before .before .before .before .before .before .before .before .before .before .before .before .before .before .children-at .result) (c .before .before .before .before .before .before .before .before .before .before .before .before .before .before .before .first-constructor .result) (c .before .before .before .before .before .before .before .before .before .before .before .before .before .before .before .before .children-at .ensures .0) n (c .before .before .before .before .before .before .before .before .before .before .records3 .ensures) (c .before .before .before .before .before .before .member .ensures .0) (c .before .before .records4 .ensures)
+    let n = first-at (c .before .before .before .before .before .before .before .before .before .before .before .before .before .before .before .before .before .before .before .before .args .ws .now) (c .before .before .before .before .before .before .before .before .before .before .before .before .before .before .before .before .before .before .before .before .args .b) (c .before .before .before .before .before .before .before .before .before .before .before .before .before .before .before .before .children-at .result) (c .before .before .before .before .before .before .before .before .before .before .before .before .before .first-constructor .result) (c .before .before .before .before .before .before .before .before .before .before .before .before .before .before .before .before .children-at .ensures .0) (c .before .before .before .before .before .before .before .before .before .before .before .before .before .first-constructor .ensures) (c .before .before .before .before .before .before .before .before .before .before .before .before .if2 .left) in
+    bare-wrote (c .before .before .before .before .before .before .before .before .before .before .before .before .before .before .before .before .before .before .before .before .args .g) (c .before .before .before .before .before .before .before .before .before .before .before .before .before .before .before .before .before .before .before .before .args .s) (p .0) (p .1) (p .2) (not-false _ (c .before .before .before .before .before .before .before .before .before .before .before .before .before .before .if1 .left)) (c .before .before .before .before .before .before .before .before .before .before .before .before .before .before .before .before .children-at .result) (c .before .before .before .before .before .before .before .before .before .before .before .before .before .first-constructor .result) (c .before .before .before .before .before .before .before .before .before .before .before .before .before .before .before .before .children-at .ensures .0) n (c .before .before .before .before .before .before .before .before .before .before .records3 .ensures) (c .before .before .before .before .before .before .member .ensures .0) (c .before .before .records4 .ensures)
 
 entries-add-records : (t : ℕ) → entries-lts.Need-add-records (entries-uses t) (entries-at t) entries.Post
 entries-add-records t c = omega (arith, c .before .before .before .pre .1 .1, c .before .before .before .pre .1 .0 .ready .few)
@@ -1637,6 +1619,44 @@ parameters-returns t c =
     let l = c .before .loop in
     moved-parameters (g .ws .now) (g .at) (g .a) (g .s) (g .c) (p .0) (p .1) (l .i) (l .q) _ (l .p) (l .n) (l .d) _ (l .inv .1) _ (p .2) (omega (arith, l .inv .0, c .before .before .before .before .before .before .before .children-at .ensures .0)) (c .before .before .before .before .before .before .payload-at .ensures .0) (c .before .before .before .before .put .ensures)
 
+plain-add-class-id : (t : ℕ) → plain-lts.Need-add-class-id (plain-uses t) (plain-at t) plain.Post
+plain-add-class-id t c = omega (arith, c .before .before .before .pre .1 .1, c .before .before .before .pre .1 .0 .ready .few)
+
+plain-class-id-requires : (t : ℕ) → plain-lts.Need-class-id-requires (plain-uses t) (plain-at t) plain.Post
+plain-class-id-requires t c κs = c .before .before .before .pre .1 .0 .ready .planned .ends
+
+plain-kind-at-requires : (t : ℕ) → plain-lts.Need-kind-at-requires (plain-uses t) (plain-at t) plain.Post
+plain-kind-at-requires t c κs = search needs
+
+plain-payload-at-requires : (t : ℕ) → plain-lts.Need-payload-at-requires (plain-uses t) (plain-at t) plain.Post
+plain-payload-at-requires t c κs = search needs
+
+plain-put-requires : (t : ℕ) → plain-lts.Need-put-requires (plain-uses t) (plain-at t) plain.Post
+plain-put-requires t c κs =
+    let g = c .before .before .before .before .before .before .before .args in
+    let f = c .before .before .before .before .before .before .before .pre .1 in
+    (f .0 .stack, omega (arith, f .0 .fit), kind-small (g .ws .now) (g .at) (c .before .before .kind-at .result) (c .before .before .kind-at .ensures) (omega (arith, c .before .before .before .before .before .before .shared-slice-known .given (g .at))), c .before .payload-at .ensures .1)
+
+plain-add-records : (t : ℕ) → plain-lts.Need-add-records (plain-uses t) (plain-at t) plain.Post
+plain-add-records t c = omega (arith, c .before .before .before .before .before .before .before .before .before .before .pre .1 .1, c .before .before .before .before .before .before .before .before .before .before .pre .1 .0 .ready .few)
+
+plain-records-requires : (t : ℕ) → plain-lts.Need-records-requires (plain-uses t) (plain-at t) plain.Post
+plain-records-requires t c κs =
+    let g = c .before .before .before .before .before .before .before .before .before .before .before .args in
+    let f = c .before .before .before .before .before .before .before .before .before .before .before .pre .1 in
+    let b : Scope = record { live = g .live; id = c .before .before .before .before .before .before .before .class-id .result } in
+    let t : Count = record { next = g .s .next; default = 67108864 } in
+    (omega (arith, c .before .before .before .before .before .before .before .before .before .before .before .pre .0, f .1), asks-one (f .0) (class-one (g .ws .now) (f .0 .ready .whole) (g .at) (f .1) (f .2)) (c .before .before .before .put .result) (size (hereAt (g .ws .now) (g .at + 1) 1 b t)) (f .1) (omega (arith, f .0 .fit, class-size (g .ws .now) (g .at) (g .a) (g .s) (g .c) (f .1) (f .0 .ready .whole) (f .2) (g .live) (f .3) (f .4) b refl (c .before .before .before .before .before .before .before .class-id .ensures .0), c .before .before .before .put .ensures .end)))
+
+plain-same-length : (t : ℕ) → plain-lts.Need-same-length (plain-uses t) (plain-at t) plain.Post
+plain-same-length t c = c .before .before .records .kept .1 .1 .1 .1 .1 .1 .1 .0 ∙ c .before .before .before .before .before .before .put .kept .1 .1 .1 .0
+
+plain-returns : (t : ℕ) → plain-lts.Need-returns (plain-uses t) (plain-at t) plain.Post
+plain-returns t c =
+    let g = c .before .before .before .before .before .before .before .before .before .before .before .before .before .before .args in
+    let f = c .before .before .before .before .before .before .before .before .before .before .before .before .before .before .pre .1 in
+    emit-class (g .ws .now) (g .at) (g .a) (g .s) (g .c) (f .1) (f .0 .ready .whole) (f .2) (g .live) (f .3) (f .4) (record { live = g .live; id = c .before .before .before .before .before .before .before .before .before .before .class-id .result }) refl (c .before .before .before .before .before .before .before .before .before .before .class-id .ensures .0) (c .before .before .before .before .before .before .before .before .before .kind-at .result) (c .before .before .before .before .before .before .before .before .payload-at .result) (c .before .before .before .before .before .before .before .before .before .kind-at .ensures) (c .before .before .before .before .before .before .before .before .payload-at .ensures .0) (c .before .before .before .before .before .before .put .ensures) (c .before .before .records .ensures)
+
 program-add-records : (t : ℕ) → program-lts.Need-add-records (program-uses t) (program-at t) program.Post
 program-add-records t c = omega (arith, c .before .before .before .pre .1 .1, c .before .before .before .pre .1 .0 .ready .few)
 
@@ -1832,8 +1852,8 @@ record-mul-w t c = omega (arith, c .before .before .before .pre .1 .1, c .before
 record-shared-slice-read-w : (t : ℕ) → record-lts.Need-shared-slice-read-w (record-uses t) (record-at t) record.Post
 record-shared-slice-read-w t c = omega (arith, c .before .before .before .before .pre .1 .0 .ready .planned .ends .long, c .before .before .before .before .pre .1 .1)
 
-record-cast-copied : (t : ℕ) → record-lts.Need-cast-copied (record-uses t) (record-at t) record.Post
-record-cast-copied t c =
+record-cast-e : (t : ℕ) → record-lts.Need-cast-e (record-uses t) (record-at t) record.Post
+record-cast-e t c =
     let g = c .before .before .before .before .before .args in
     let f = c .before .before .before .before .before .pre .1 in
     omega (arith, note-at _ _ _ (f .0 .noted) (f .1) .place, end-high (g .ws .now) (g .at) 1, f .0 .ready .few, f .1)
@@ -1845,7 +1865,7 @@ record-copied-requires t c κs =
     copies (g .a) (g .s) (f .0) (f .1) _ (note-at _ _ _ (f .0 .noted) (f .1)) (eq-eqb _ 1 (c .before .if1 .taken))
 
 record-same-length : (t : ℕ) → record-lts.Need-same-length (record-uses t) (record-at t) record.Post
-record-same-length t c = c .before .before .copied .kept .1 .1 .1 .1 .1 .0
+record-same-length t c = c .before .before .copied .kept .1 .1 .1 .1 .0
 
 record-returns : (t : ℕ) → record-lts.Need-returns (record-uses t) (record-at t) record.Post
 record-returns t c =
@@ -2004,122 +2024,93 @@ records-Inv-loop ws notes at k a c out₀ pos q₀ i₀ p₀ n₀ d₀ m₀ out 
 abbrev records-μ-loop : records-lts.MeasureT-loop
 records-μ-loop ws notes at k a c out₀ pos q₀ i₀ p₀ n₀ d₀ m₀ out q i p n d m = k - i
 
-records-loop-holds :
-    (t : ℕ) →
-    records-lts.Need-loop-holds
-    (record-below t, record.Post)
-    (records-at t)
-    records.Post
-    records-Inv-loop
-    records-μ-loop
+records-loop-holds : (t : ℕ) → records-lts.Need-loop-holds (records-uses t) (records-at t) records.Post records-Inv-loop records-μ-loop
 records-loop-holds t c =
     let g = c .before .before .before .args in
     (c .before .before .before .pre .1 .ready .inside, omega arith, refl, emit-none (g .ws .now) (g .at) (g .a) (g .s) (g .c) (g .out .now) (g .pos))
 
-records-same-length :
-    (t : ℕ) →
-    records-lts.Need-same-length
-    (record-below t, record.Post)
-    (records-at t)
-    records.Post
-    records-Inv-loop
-    records-μ-loop
+records-same-length : (t : ℕ) → records-lts.Need-same-length (records-uses t) (records-at t) records.Post records-Inv-loop records-μ-loop
 records-same-length t c = c .before .before .loop .inv .2
 
-records-returns :
-    (t : ℕ) →
-    records-lts.Need-returns
-    (record-below t, record.Post)
-    (records-at t)
-    records.Post
-    records-Inv-loop
-    records-μ-loop
+records-returns : (t : ℕ) → records-lts.Need-returns (records-uses t) (records-at t) records.Post records-Inv-loop records-μ-loop
 records-returns t c =
     let g = c .before .before .before .before .before .before .args in
     let l = c .before .before .loop in
     emit-rest (g .ws .now) (g .at) (g .a) (g .s) (g .c) (l .i) (g .k) (l .q) (l .p) (l .n) (l .d) (l .m) (l .inv .1) (l .inv .3) (c .if1 .taken)
 
-records-record-requires :
-    (t : ℕ) →
-    records-lts.Need-record-requires
-    (record-below t, record.Post)
-    (records-at t)
-    records.Post
-    records-Inv-loop
-    records-μ-loop
-records-record-requires t c κs =
-    let g = c .before .before .before .before .before .before .before .args in
-    let l = c .before .before .before .loop in
-    (omega (arith, c .before .before .before .before .before .before .before .pre .0, l .inv .3 .moved .place, end-low (g .ws .now) (g .at) (l .i), c .before .if1 .left), (asks-next (g .a) (g .s) (c .before .before .before .before .before .before .before .pre .1) (l .i) (l .q) (l .p) (l .n) (l .d) (l .m) refl (c .before .before .loop-test .taken) (l .inv .3), c .before .if1 .left))
+records-mul-note : (t : ℕ) → records-lts.Need-mul-note (records-uses t) (records-at t) records.Post records-Inv-loop records-μ-loop
+records-mul-note t c = omega (arith, c .if1 .left, c .before .before .before .before .before .before .pre .1 .ready .few)
 
-records-add-m :
-    (t : ℕ) →
-    records-lts.Need-add-m
-    (record-below t, record.Post)
-    (records-at t)
-    records.Post
-    records-Inv-loop
-    records-μ-loop
+records-shared-slice-read-note : (t : ℕ) → records-lts.Need-shared-slice-read-note (records-uses t) (records-at t) records.Post records-Inv-loop records-μ-loop
+records-shared-slice-read-note t c = omega (arith, c .before .if1 .left, c .before .before .before .before .before .before .before .pre .1 .ready .planned .ends .long)
+
+records-cast-e : (t : ℕ) → records-lts.Need-cast-e (records-uses t) (records-at t) records.Post records-Inv-loop records-μ-loop
+records-cast-e t c =
+    let g = c .before .before .before .before .before .before .before .before .args in
+    let l = c .before .before .before .before .loop in
+    let f = asks-next (g .a) (g .s) (c .before .before .before .before .before .before .before .before .pre .1) (l .i) (l .q) (l .p) (l .n) (l .d) (l .m) refl (c .before .before .before .loop-test .taken) (l .inv .3) in
+    omega (arith, note-at _ _ _ (f .noted) (c .before .before .if1 .left) .place, end-high (g .ws .now) (l .q) 1, f .ready .few, f .ready .inside)
+
+records-copied-requires : (t : ℕ) → records-lts.Need-copied-requires (records-uses t) (records-at t) records.Post records-Inv-loop records-μ-loop
+records-copied-requires t c κs =
+    let g = c .before .before .before .before .before .before .before .before .before .args in
+    let l = c .before .before .before .before .before .loop in
+    let f = asks-next (g .a) (g .s) (c .before .before .before .before .before .before .before .before .before .pre .1) (l .i) (l .q) (l .p) (l .n) (l .d) (l .m) refl (c .before .before .before .before .loop-test .taken) (l .inv .3) in
+    copies (g .a) (record { next = l .n; default = l .d }) f (c .before .before .before .if1 .left) _ (note-at _ _ _ (f .noted) (c .before .before .before .if1 .left)) (eq-eqb _ 1 (c .before .if2 .taken))
+
+records-add-m : (t : ℕ) → records-lts.Need-add-m (records-uses t) (records-at t) records.Post records-Inv-loop records-μ-loop
 records-add-m t c =
-    let g = c .before .before .before .before .before .before .before .before .before .before .before .args in
-    let l = c .before .before .before .before .before .before .before .loop in
-    let y = c .before .before .before .«record» .ensures in
-    let f = c .before .before .before .before .before .before .before .before .before .before .before .pre .1 in
-    let z = next-size (g .a) (g .s) f (l .i) (l .q) (l .p) (l .n) (l .d) (l .m) refl (c .before .before .before .before .before .before .loop-test .taken) (l .inv .3) in
-    omega (arith, z, y .number, l .inv .3 .number, l .inv .3 .moved .wrote .end, length-words (g .c) (hereAt (g .ws .now) (g .at) (l .i) (g .a) (g .s)), count-size (hereAt (g .ws .now) (g .at) (l .i) (g .a) (g .s)), count-size (hereAt (g .ws .now) (l .q) 1 (g .a) (record { next = l .n; default = l .d })))
+    let g = c .before .before .before .before .before .before .before .before .before .before .before .before .args in
+    let l = c .before .before .before .before .before .before .before .before .loop in
+    let z = next-size (g .a) (g .s) (c .before .before .before .before .before .before .before .before .before .before .before .before .pre .1) (l .i) (l .q) (l .p) (l .n) (l .d) (l .m) refl (c .before .before .before .before .before .before .before .loop-test .taken) (l .inv .3) in
+    omega (arith, z, l .inv .3 .number, l .inv .3 .moved .wrote .end, length-words (g .c) (hereAt (g .ws .now) (g .at) (l .i) (g .a) (g .s)), count-size (hereAt (g .ws .now) (g .at) (l .i) (g .a) (g .s)))
 
-records-add-i :
-    (t : ℕ) →
-    records-lts.Need-add-i
-    (record-below t, record.Post)
-    (records-at t)
-    records.Post
-    records-Inv-loop
-    records-μ-loop
+records-add-i : (t : ℕ) → records-lts.Need-add-i (records-uses t) (records-at t) records.Post records-Inv-loop records-μ-loop
 records-add-i t c = omega arith
 
-records-loop-less :
-    (t : ℕ) →
-    records-lts.Need-loop-less
-    (record-below t, record.Post)
-    (records-at t)
-    records.Post
-    records-Inv-loop
-    records-μ-loop
+records-loop-less : (t : ℕ) → records-lts.Need-loop-less (records-uses t) (records-at t) records.Post records-Inv-loop records-μ-loop
 records-loop-less t c = omega arith
 
-records-loop-again :
-    (t : ℕ) →
-    records-lts.Need-loop-again
-    (record-below t, record.Post)
-    (records-at t)
-    records.Post
-    records-Inv-loop
-    records-μ-loop
+records-loop-again : (t : ℕ) → records-lts.Need-loop-again (records-uses t) (records-at t) records.Post records-Inv-loop records-μ-loop
 records-loop-again t c =
-    let g = c .before .before .before .before .before .before .before .before .before .before .before .args in
-    let l = c .before .before .before .before .before .before .before .loop in
+    let g = c .before .before .before .before .before .before .before .before .before .before .before .before .args in
+    let l = c .before .before .before .before .before .before .before .before .loop in
+    let f = asks-next (g .a) (g .s) (c .before .before .before .before .before .before .before .before .before .before .before .before .pre .1) (l .i) (l .q) (l .p) (l .n) (l .d) (l .m) refl (c .before .before .before .before .before .before .before .loop-test .taken) (l .inv .3) in
+    let y = copied-emits (g .a) (record { next = l .n; default = l .d }) f (c .before .before .before .before .before .before .if1 .left) _ (note-at _ _ _ (f .noted) (c .before .before .before .before .before .before .if1 .left)) (eq-eqb _ 1 (c .before .before .before .before .if2 .taken)) (c .before .before .copied .ensures) in
+    (emit-inside (g .ws .now) (l .q) (g .a) (record { next = l .n; default = l .d }) (g .c) 1 y (l .inv .0), omega arith, c .before .before .copied .kept .1 .1 .1 .1 .0 ∙ l .inv .2, emit-add (g .ws .now) (g .at) (g .a) (g .s) (g .c) (l .i) 1 (l .q) (l .p) (l .n) (l .d) (l .m) (l .inv .3) y)
+
+records-record-requires : (t : ℕ) → records-lts.Need-record-requires (records-uses t) (records-at t) records.Post records-Inv-loop records-μ-loop
+records-record-requires t c κs =
+    let g = c .before .before .before .before .before .before .before .before .before .args in
+    let l = c .before .before .before .before .before .loop in
+    (omega (arith, c .before .before .before .before .before .before .before .before .before .pre .0, l .inv .3 .moved .place, end-low (g .ws .now) (g .at) (l .i), c .before .before .before .if1 .left), (asks-next (g .a) (g .s) (c .before .before .before .before .before .before .before .before .before .pre .1) (l .i) (l .q) (l .p) (l .n) (l .d) (l .m) refl (c .before .before .before .before .loop-test .taken) (l .inv .3), c .before .before .before .if1 .left))
+
+records-add-m-2 : (t : ℕ) → records-lts.Need-add-m-2 (records-uses t) (records-at t) records.Post records-Inv-loop records-μ-loop
+records-add-m-2 t c =
+    let g = c .before .before .before .before .before .before .before .before .before .before .before .before .before .args in
+    let l = c .before .before .before .before .before .before .before .before .before .loop in
+    let y = c .before .before .before .«record» .ensures in
+    let f = c .before .before .before .before .before .before .before .before .before .before .before .before .before .pre .1 in
+    let z = next-size (g .a) (g .s) f (l .i) (l .q) (l .p) (l .n) (l .d) (l .m) refl (c .before .before .before .before .before .before .before .before .loop-test .taken) (l .inv .3) in
+    omega (arith, z, y .number, l .inv .3 .number, l .inv .3 .moved .wrote .end, length-words (g .c) (hereAt (g .ws .now) (g .at) (l .i) (g .a) (g .s)), count-size (hereAt (g .ws .now) (g .at) (l .i) (g .a) (g .s)), count-size (hereAt (g .ws .now) (l .q) 1 (g .a) (record { next = l .n; default = l .d })))
+
+records-add-i-2 : (t : ℕ) → records-lts.Need-add-i-2 (records-uses t) (records-at t) records.Post records-Inv-loop records-μ-loop
+records-add-i-2 t c = omega arith
+
+records-loop-less-2 : (t : ℕ) → records-lts.Need-loop-less-2 (records-uses t) (records-at t) records.Post records-Inv-loop records-μ-loop
+records-loop-less-2 t c = omega arith
+
+records-loop-again-2 : (t : ℕ) → records-lts.Need-loop-again-2 (records-uses t) (records-at t) records.Post records-Inv-loop records-μ-loop
+records-loop-again-2 t c =
+    let g = c .before .before .before .before .before .before .before .before .before .before .before .before .before .args in
+    let l = c .before .before .before .before .before .before .before .before .before .loop in
     let y = c .before .before .before .«record» .ensures in
     (emit-inside (g .ws .now) (l .q) (g .a) (record { next = l .n; default = l .d }) (g .c) 1 y (l .inv .0), omega arith, c .before .before .before .«record» .kept .1 .1 .1 .1 .1 .1 .0 ∙ l .inv .2, emit-add (g .ws .now) (g .at) (g .a) (g .s) (g .c) (l .i) 1 (l .q) (l .p) (l .n) (l .d) (l .m) (l .inv .3) y)
 
-records-same-length-2 :
-    (t : ℕ) →
-    records-lts.Need-same-length-2
-    (record-below t, record.Post)
-    (records-at t)
-    records.Post
-    records-Inv-loop
-    records-μ-loop
+records-same-length-2 : (t : ℕ) → records-lts.Need-same-length-2 (records-uses t) (records-at t) records.Post records-Inv-loop records-μ-loop
 records-same-length-2 t c = c .before .loop .inv .2
 
-records-returns-2 :
-    (t : ℕ) →
-    records-lts.Need-returns-2
-    (record-below t, record.Post)
-    (records-at t)
-    records.Post
-    records-Inv-loop
-    records-μ-loop
+records-returns-2 : (t : ℕ) → records-lts.Need-returns-2 (records-uses t) (records-at t) records.Post records-Inv-loop records-μ-loop
 records-returns-2 t c =
     let g = c .before .before .before .before .before .args in
     let l = c .before .loop in
@@ -2371,9 +2362,9 @@ transform-decorators-of-parameters-returns t c =
     let e : l .i ≡ c .before .before .children-at .result = omega (arith, l .inv .0) in
     parameters-done (g .ws .now) (g .at) (g .a) (g .s) (g .c) (e ∙ c .before .before .children-at .ensures .0) (l .inv .1)
 
-pub +bare+call+calls+class-body+class-statement+create-assignment+declared+elements+entries+expression+first-entries+indexed+kept+list+live-class+member+parameter+parameters+program+queue+record+records+transform-class+transform-decorators-of-parameters-spec :
+pub +bare+call+calls+class-body+class-statement+create-assignment+elements+entries+expression+first-entries+indexed+kept+list+live-class+member+parameter+parameters+plain+program+queue+record+records+transform-class+transform-decorators-of-parameters-spec :
     {M : Type 1} → statement M
-+bare+call+calls+class-body+class-statement+create-assignment+declared+elements+entries+expression+first-entries+indexed+kept+list+live-class+member+parameter+parameters+program+queue+record+records+transform-class+transform-decorators-of-parameters-spec =
++bare+call+calls+class-body+class-statement+create-assignment+elements+entries+expression+first-entries+indexed+kept+list+live-class+member+parameter+parameters+plain+program+queue+record+records+transform-class+transform-decorators-of-parameters-spec =
     close
     μ-bare
     μ-call
@@ -2381,7 +2372,6 @@ pub +bare+call+calls+class-body+class-statement+create-assignment+declared+eleme
     μ-class-body
     μ-class-statement
     μ-create-assignment
-    μ-declared
     μ-elements
     μ-entries
     μ-expression
@@ -2393,6 +2383,7 @@ pub +bare+call+calls+class-body+class-statement+create-assignment+declared+eleme
     μ-member
     μ-parameter
     μ-parameters
+    μ-plain
     μ-program
     μ-queue
     μ-record
@@ -2468,12 +2459,16 @@ pub +bare+call+calls+class-body+class-statement+create-assignment+declared+eleme
     class-statement.Post
     (class-statement-add-is-live t)
     (class-statement-is-live-requires t)
-    (class-statement-live-class-requires t)
+    (class-statement-is-plain-requires t)
+    (class-statement-plain-requires t)
     (class-statement-same-length t)
     (class-statement-returns t)
-    (class-statement-declared-requires t)
+    (class-statement-live-class-requires t)
     (class-statement-same-length-2 t)
-    (class-statement-returns-2 t))
+    (class-statement-returns-2 t)
+    (class-statement-plain-requires-2 t)
+    (class-statement-same-length-3 t)
+    (class-statement-returns-3 t))
     (λ t. create-assignment-lts.spec (create-assignment-uses t) (create-assignment-at t)
     create-assignment.Post
     (create-assignment-assignment-head-requires t)
@@ -2489,26 +2484,15 @@ pub +bare+call+calls+class-body+class-statement+create-assignment+declared+eleme
     (create-assignment-put-requires-2 t)
     (create-assignment-same-length t)
     (create-assignment-returns t))
-    (λ t. declared-lts.spec (declared-uses t) (declared-at t)
-    declared.Post
-    (declared-add-class-id t)
-    (declared-class-id-requires t)
-    (declared-kind-at-requires t)
-    (declared-payload-at-requires t)
-    (declared-put-requires t)
-    (declared-add-records t)
-    (declared-records-requires t)
-    (declared-same-length t)
-    (declared-returns t))
     (λ t. elements-lts.spec (elements-uses t) (elements-at t)
     elements.Post
     (elements-children-at-requires t)
-    (elements-add-first-constructor t)
-    (elements-first-constructor-requires t)
     (elements-add-records t)
     (elements-records-requires t)
     (elements-same-length t)
     (elements-returns t)
+    (elements-add-first-constructor t)
+    (elements-first-constructor-requires t)
     (elements-add-records-2 t)
     (elements-records-requires-2 t)
     (elements-same-length-2 t)
@@ -2658,6 +2642,17 @@ pub +bare+call+calls+class-body+class-statement+create-assignment+declared+eleme
     (parameters-loop-again t)
     (parameters-same-length t)
     (parameters-returns t))
+    (λ t. plain-lts.spec (plain-uses t) (plain-at t)
+    plain.Post
+    (plain-add-class-id t)
+    (plain-class-id-requires t)
+    (plain-kind-at-requires t)
+    (plain-payload-at-requires t)
+    (plain-put-requires t)
+    (plain-add-records t)
+    (plain-records-requires t)
+    (plain-same-length t)
+    (plain-returns t))
     (λ t. program-lts.spec (program-uses t) (program-at t)
     program.Post
     (program-add-records t)
@@ -2695,7 +2690,7 @@ pub +bare+call+calls+class-body+class-statement+create-assignment+declared+eleme
     record.Post
     (record-mul-w t)
     (record-shared-slice-read-w t)
-    (record-cast-copied t)
+    (record-cast-e t)
     (record-copied-requires t)
     (record-same-length t)
     (record-returns t)
@@ -2735,20 +2730,26 @@ pub +bare+call+calls+class-body+class-statement+create-assignment+declared+eleme
     (record-returns-11 t)
     (record-same-length-12 t)
     (record-returns-12 t))
-    (λ t. records-lts.spec
-    (record-below t, record.Post)
-    (records-at t)
+    (λ t. records-lts.spec (records-uses t) (records-at t)
     records.Post
     records-Inv-loop
     records-μ-loop
     (records-loop-holds t)
     (records-same-length t)
     (records-returns t)
-    (records-record-requires t)
+    (records-mul-note t)
+    (records-shared-slice-read-note t)
+    (records-cast-e t)
+    (records-copied-requires t)
     (records-add-m t)
     (records-add-i t)
     (records-loop-less t)
     (records-loop-again t)
+    (records-record-requires t)
+    (records-add-m-2 t)
+    (records-add-i-2 t)
+    (records-loop-less-2 t)
+    (records-loop-again-2 t)
     (records-same-length-2 t)
     (records-returns-2 t))
     (λ t. transform-class-lts.spec (transform-class-uses t) (transform-class-at t)
