@@ -1,6 +1,7 @@
 // The C entry: a module's bytes in, the bytes of what it becomes out, one number back. Keeps nothing between calls.
 use rewriter::Answer;
 ghost use mathlib.Core.Path.{_≡_};
+ghost use mathlib.Core.Bool.{true, false};
 ghost use Prim.Native.Nat.{_+_, _*_, _/_, _%_, _≤_};
 ghost use lib.Dec.{ltb};
 ghost use lib.ListN.{length, take};
@@ -11,7 +12,7 @@ ghost use Rattle.host.specs.Bytes.{wordFrom, wordsOfBytes, bytesFrom, by
 ghost use Rattle.host.specs.Entry.{numberOf, InFields, answerIn, isBadLength, rewriteBytes, rewriteBytesLent, reportBytes, ReportBytesLent};
 
 // Rewrites the module in `bytes`; the answer's bytes go to the start of `out`. The number holds the three answers.
-// A module takes arrays of one of three sizes: short ones are cleared sooner.
+// A module of at most 64 words has its arrays here, a longer one in `long_call`: a short one then has a small frame and little to clear.
 #[no_mangle]
 pub extern "C" fn gingerpost_rewrite(bytes: &[u8], out: &mut [u8]) -> u64
     ensures number { λ r. ⌜ r ≡ numberOf (rewriteBytes (now (bytes .entry)) (now (out .entry))) ⌝ }
@@ -23,29 +24,30 @@ pub extern "C" fn gingerpost_rewrite(bytes: &[u8], out: &mut [u8]) -> u64
     }
     if bytes.len() <= 256 {
         let mut ws = [0u32; 64];
+        let mut notes = [0u32; 64];
         let mut written = [0u32; 192];
-        return rewrite_by(bytes, &mut ws, &mut written, out);
+        return rewrite_by(bytes, &mut ws, &mut notes, &mut written, out);
     }
-    if bytes.len() <= 2048 {
-        let mut ws = [0u32; 512];
-        let mut written = [0u32; 1536];
-        return rewrite_by(bytes, &mut ws, &mut written, out);
-    }
-    let mut ws = [0u32; 4096];
-    let mut written = [0u32; 12288];
-    rewrite_by(bytes, &mut ws, &mut written, out)
+    long_call(bytes, out, false)
 }
 
-// `gingerpost_rewrite` with the words lent: `ws` for those read, `written` for the answer's, at most three times as many (`module-length`).
-fn rewrite_by(bytes: &[u8], ws: &mut [u32], written: &mut [u32], out: &mut [u8]) -> u64
-    requires { ⌜ (length (now bytes) % 4 ≡ 0) × (length (now bytes) ≤ 4 * length (now ws)) × (3 * length (now ws) ≤ length (now written)) × (length (now written) ≤ 12288) ⌝ }
+// `gingerpost_rewrite` with the words lent: `ws` for those read, `notes` for as many notes, `written` for the answer's, at most three times as many
+// (`module-length`).
+fn rewrite_by(
+    bytes: &[u8],
+    ws: &mut [u32],
+    notes: &mut [u32],
+    written: &mut [u32],
+    out: &mut [u8],
+) -> u64
+    requires { ⌜ (length (now bytes) % 4 ≡ 0) × (length (now bytes) ≤ 4 * length (now ws)) × (length (now ws) ≤ length (now notes)) × (3 * length (now ws) ≤ length (now written)) × (length (now written) ≤ 12288) ⌝ }
     ensures number { λ r. ⌜ r ≡ numberOf (rewriteBytes (now (bytes .entry)) (now (out .entry))) ⌝ }
     ensures lent { λ r. ⌜ now (out .exit) ≡ rewriteBytesLent (now (bytes .entry)) (now (out .entry)) ⌝ }
     ensures demand { λ r. ⌜ (answerIn r .code ≡ 0 → DemandWords (wordsOfBytes (now (bytes .entry))) (take (answerIn r .written) (wordsOfBytes (now (out .exit))))) ⌝ }
 {
     let n = bytes.len() >> 2;
     pack(bytes, ws);
-    let r = rewriter::rewrite(&ws[..n], written);
+    let r = rewriter::rewrite_by(&ws[..n], notes, written);
     let m = r.written;
     if is_short(out.len(), m) {
         return 8;
@@ -65,34 +67,69 @@ pub extern "C" fn gingerpost_report(bytes: &[u8], out: &mut [u8]) -> u64
     }
     if bytes.len() <= 256 {
         let mut ws = [0u32; 64];
+        let mut notes = [0u32; 64];
         let mut written = [0u32; 21];
-        return report_by(bytes, &mut ws, &mut written, out);
+        return report_by(bytes, &mut ws, &mut notes, &mut written, out);
     }
-    if bytes.len() <= 2048 {
-        let mut ws = [0u32; 512];
-        let mut written = [0u32; 170];
-        return report_by(bytes, &mut ws, &mut written, out);
-    }
-    let mut ws = [0u32; 4096];
-    let mut written = [0u32; 1365];
-    report_by(bytes, &mut ws, &mut written, out)
+    long_call(bytes, out, true)
 }
 
-// `gingerpost_report` with the words lent: `ws` for those read, `written` for the report's, at most a third of them (`report-length`).
-fn report_by(bytes: &[u8], ws: &mut [u32], written: &mut [u32], out: &mut [u8]) -> u64
-    requires { ⌜ (length (now bytes) % 4 ≡ 0) × (length (now bytes) ≤ 4 * length (now ws)) × (length (now ws) / 3 ≤ length (now written)) × (length (now written) ≤ 12288) ⌝ }
+// `gingerpost_report` with the words lent: `ws` for those read, `notes` for as many notes, `written` for the report's, at most a third of them
+// (`report-length`).
+fn report_by(
+    bytes: &[u8],
+    ws: &mut [u32],
+    notes: &mut [u32],
+    written: &mut [u32],
+    out: &mut [u8],
+) -> u64
+    requires { ⌜ (length (now bytes) % 4 ≡ 0) × (length (now bytes) ≤ 4 * length (now ws)) × (length (now ws) ≤ length (now notes)) × (length (now ws) / 3 ≤ length (now written)) × (length (now written) ≤ 12288) ⌝ }
     ensures number { λ r. ⌜ r ≡ numberOf (reportBytes (now (bytes .entry)) (now (out .entry))) ⌝ }
     ensures lent { λ r. ⌜ ReportBytesLent (now (bytes .entry)) (now (out .entry)) (now (out .exit)) ⌝ }
 {
     let n = bytes.len() >> 2;
     pack(bytes, ws);
-    let r = symbol_report::report(&ws[..n], written);
+    let r = symbol_report::report_by(&ws[..n], notes, written);
     let m = r.written;
     if is_short(out.len(), m) {
         return 8;
     }
     unpack(&written[..m], out);
     number(r)
+}
+
+// The call on a longer module: its report where that is asked for, else its rewriting. One function with arrays of three sizes, for both entries: the
+// compiler then doesn't merge it into them, and their own frames stay small.
+fn long_call(bytes: &[u8], out: &mut [u8], report: bool) -> u64
+    requires { ⌜ (length (now bytes) % 4 ≡ 0) × (length (now bytes) ≤ 16384) ⌝ }
+    ensures rewritten { λ r. ⌜ (report ≡ false → (r ≡ numberOf (rewriteBytes (now (bytes .entry)) (now (out .entry)))) × ((now (out .exit) ≡ rewriteBytesLent (now (bytes .entry)) (now (out .entry))) × (answerIn r .code ≡ 0 → DemandWords (wordsOfBytes (now (bytes .entry))) (take (answerIn r .written) (wordsOfBytes (now (out .exit))))))) ⌝ }
+    ensures reported { λ r. ⌜ (report ≡ true → (r ≡ numberOf (reportBytes (now (bytes .entry)) (now (out .entry)))) × ReportBytesLent (now (bytes .entry)) (now (out .entry)) (now (out .exit))) ⌝ }
+{
+    if bytes.len() <= 512 {
+        let mut ws = [0u32; 128];
+        let mut notes = [0u32; 128];
+        let mut written = [0u32; 384];
+        if report {
+            return report_by(bytes, &mut ws, &mut notes, &mut written, out);
+        }
+        return rewrite_by(bytes, &mut ws, &mut notes, &mut written, out);
+    }
+    if bytes.len() <= 2048 {
+        let mut ws = [0u32; 512];
+        let mut notes = [0u32; 512];
+        let mut written = [0u32; 1536];
+        if report {
+            return report_by(bytes, &mut ws, &mut notes, &mut written, out);
+        }
+        return rewrite_by(bytes, &mut ws, &mut notes, &mut written, out);
+    }
+    let mut ws = [0u32; 4096];
+    let mut notes = [0u32; 4096];
+    let mut written = [0u32; 12288];
+    if report {
+        return report_by(bytes, &mut ws, &mut notes, &mut written, out);
+    }
+    rewrite_by(bytes, &mut ws, &mut notes, &mut written, out)
 }
 
 // Whether so many bytes are refused at once: no multiple of 4, or over 4,096 words.

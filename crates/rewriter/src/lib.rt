@@ -41,8 +41,8 @@ pub fn rewrite(ws: &[u32], out: &mut [u32]) -> Answer
     rewrite_by(ws, &mut notes, out)
 }
 
-// `rewrite` with the notes lent: as many as the words of a module that is accepted.
-fn rewrite_by(ws: &[u32], notes: &mut [u32], out: &mut [u32]) -> Answer
+// `rewrite` with the notes lent, also for the C entry: as many as the words of a module that is accepted.
+pub fn rewrite_by(ws: &[u32], notes: &mut [u32], out: &mut [u32]) -> Answer
     requires { ⌜ (refusal (now ws) ≡ 0 → length (now ws) ≤ length (now notes)) ⌝ }
     ensures numbers { λ r. ⌜ numbersOf r ≡ rewriteAnswer (now (ws .entry)) (now (out .entry)) ⌝ }
     ensures lent { λ r. ⌜ now (out .exit) ≡ rewriteLent (now (ws .entry)) (now (out .entry)) ⌝ }

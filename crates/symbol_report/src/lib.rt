@@ -32,8 +32,8 @@ pub fn report(ws: &[u32], out: &mut [u32]) -> Answer
     report_by(ws, &mut notes, out)
 }
 
-// `report` with the notes lent: as many as the words of a module that is accepted.
-fn report_by(ws: &[u32], notes: &mut [u32], out: &mut [u32]) -> Answer
+// `report` with the notes lent, also for the C entry: as many as the words of a module that is accepted.
+pub fn report_by(ws: &[u32], notes: &mut [u32], out: &mut [u32]) -> Answer
     requires { ⌜ (refusal (now ws) ≡ 0 → length (now ws) ≤ length (now notes)) ⌝ }
     ensures numbers { λ r. ⌜ numbersOf r ≡ reportAnswer (now (ws .entry)) (now (out .entry)) ⌝ }
     ensures lent { λ r. ⌜ ReportLent (now (ws .entry)) (now (out .entry)) (now (out .exit)) ⌝ }

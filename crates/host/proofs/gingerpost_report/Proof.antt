@@ -1,4 +1,4 @@
--- `gingerpost_report`: as `gingerpost_rewrite`; the rest is `report_by`.
+-- `gingerpost_report`: as `gingerpost_rewrite`; the rest is `report_by` or `long_call`.
 use Rattle.host.specs.EntryLaws.{good-length, answer-bad, refused-number, refused-lent}
 use Rattle.host.specs.Entry.{reportBytes}
 use Rattle.host.specs.Bytes.{wordsOfBytes, bytesOfWords}
@@ -27,10 +27,13 @@ slice-aggregate-report-by c = search needs
 slice-aggregate-report-by-2 : tie.Need-slice-aggregate-report-by-2
 slice-aggregate-report-by-2 c = search needs
 
+slice-aggregate-report-by-3 : tie.Need-slice-aggregate-report-by-3
+slice-aggregate-report-by-3 c = search needs
+
 report-by-requires : tie.Need-report-by-requires
 report-by-requires c κs =
-    let good = good-length (length (c .before .before .before .before .before .before .before .before .args .bytes .now)) (sym (c .before .before .before .before .before .is-bad-length .ensures) ∙ c .before .before .before .before .if1 .left) in
-    (good .0, omega arith, omega arith, omega arith)
+    let good = good-length (length (c .before .before .before .before .before .before .before .before .before .args .bytes .now)) (sym (c .before .before .before .before .before .before .is-bad-length .ensures) ∙ c .before .before .before .before .before .if1 .left) in
+    (good .0, omega arith, omega arith, omega arith, omega arith)
 
 same-length : tie.Need-same-length
 same-length c = search needs
@@ -38,39 +41,14 @@ same-length c = search needs
 returns-2 : tie.Need-returns-2
 returns-2 c = search needs
 
-slice-aggregate-report-by-3 : tie.Need-slice-aggregate-report-by-3
-slice-aggregate-report-by-3 c = search needs
-
-slice-aggregate-report-by-4 : tie.Need-slice-aggregate-report-by-4
-slice-aggregate-report-by-4 c = search needs
-
-report-by-requires-2 : tie.Need-report-by-requires-2
-report-by-requires-2 c κs =
-    let good = good-length (length (c .before .before .before .before .before .before .before .before .before .args .bytes .now)) (sym (c .before .before .before .before .before .before .is-bad-length .ensures) ∙ c .before .before .before .before .before .if1 .left) in
-    (good .0, omega arith, omega arith, omega arith)
+long-call-requires : tie.Need-long-call-requires
+long-call-requires c κs = good-length (length (c .before .before .before .before .before .before .args .bytes .now)) (sym (c .before .before .before .is-bad-length .ensures) ∙ c .before .before .if1 .left)
 
 same-length-2 : tie.Need-same-length-2
 same-length-2 c = search needs
 
 returns-3 : tie.Need-returns-3
-returns-3 c = search needs
-
-slice-aggregate-report-by-5 : tie.Need-slice-aggregate-report-by-5
-slice-aggregate-report-by-5 c = search needs
-
-slice-aggregate-report-by-6 : tie.Need-slice-aggregate-report-by-6
-slice-aggregate-report-by-6 c = search needs
-
-report-by-requires-3 : tie.Need-report-by-requires-3
-report-by-requires-3 c κs =
-    let good = good-length (length (c .before .before .before .before .before .before .before .before .before .args .bytes .now)) (sym (c .before .before .before .before .before .before .is-bad-length .ensures) ∙ c .before .before .before .before .before .if1 .left) in
-    (good .0, omega (arith, good .1), omega arith, omega arith)
-
-same-length-3 : tie.Need-same-length-3
-same-length-3 c = search needs
-
-returns-4 : tie.Need-returns-4
-returns-4 c = search needs
+returns-3 c = c .before .before .long-call .ensures .1 refl
 
 pub gingerpost-report-spec : {M : Type 1} → statement M
 gingerpost-report-spec =
@@ -80,16 +58,10 @@ gingerpost-report-spec =
     returns
     slice-aggregate-report-by
     slice-aggregate-report-by-2
+    slice-aggregate-report-by-3
     report-by-requires
     same-length
     returns-2
-    slice-aggregate-report-by-3
-    slice-aggregate-report-by-4
-    report-by-requires-2
+    long-call-requires
     same-length-2
-    returns-3
-    slice-aggregate-report-by-5
-    slice-aggregate-report-by-6
-    report-by-requires-3
-    same-length-3
-    returns-4)
+    returns-3)

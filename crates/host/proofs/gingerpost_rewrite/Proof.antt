@@ -1,11 +1,11 @@
--- `gingerpost_rewrite`: the early return is refusal 1; else the bytes are whole words, at most 64, 512 or 4,096, and the rest is `rewrite_by`.
+-- `gingerpost_rewrite`: the early return is refusal 1; else the bytes are whole words, and the rest is `rewrite_by` for at most 64, `long_call` for more.
 use Rattle.host.specs.EntryLaws.{good-length, answer-bad, refused-number, refused-lent}
 use Rattle.host.specs.Entry.{answerIn, rewriteBytes, rewriteBytesLent}
 use Rattle.host.specs.Bytes.{wordsOfBytes, bytesOfWords}
 use Rattle.rewriting.specs.Answer.{moduleWords}
 use lib.ListN.{length}
 use native.Mathlib.Omega.{arith}
-use mathlib.Core.Path.{sym, _∙_}
+use mathlib.Core.Path.{refl, sym, _∙_}
 use borrow.Author.Needs.{needs}
 use Rattle.host.proofs.gingerpost_rewrite.Statement.{statement}
 use Rattle.host.proofs.gingerpost_rewrite.Tie as tie
@@ -27,10 +27,13 @@ slice-aggregate-rewrite-by c = search needs
 slice-aggregate-rewrite-by-2 : tie.Need-slice-aggregate-rewrite-by-2
 slice-aggregate-rewrite-by-2 c = search needs
 
+slice-aggregate-rewrite-by-3 : tie.Need-slice-aggregate-rewrite-by-3
+slice-aggregate-rewrite-by-3 c = search needs
+
 rewrite-by-requires : tie.Need-rewrite-by-requires
 rewrite-by-requires c κs =
-    let good = good-length (length (c .before .before .before .before .before .before .before .before .args .bytes .now)) (sym (c .before .before .before .before .before .is-bad-length .ensures) ∙ c .before .before .before .before .if1 .left) in
-    (good .0, omega arith, omega arith, omega arith)
+    let good = good-length (length (c .before .before .before .before .before .before .before .before .before .args .bytes .now)) (sym (c .before .before .before .before .before .before .is-bad-length .ensures) ∙ c .before .before .before .before .before .if1 .left) in
+    (good .0, omega arith, omega arith, omega arith, omega arith)
 
 same-length : tie.Need-same-length
 same-length c = search needs
@@ -38,39 +41,14 @@ same-length c = search needs
 returns-2 : tie.Need-returns-2
 returns-2 c = search needs
 
-slice-aggregate-rewrite-by-3 : tie.Need-slice-aggregate-rewrite-by-3
-slice-aggregate-rewrite-by-3 c = search needs
-
-slice-aggregate-rewrite-by-4 : tie.Need-slice-aggregate-rewrite-by-4
-slice-aggregate-rewrite-by-4 c = search needs
-
-rewrite-by-requires-2 : tie.Need-rewrite-by-requires-2
-rewrite-by-requires-2 c κs =
-    let good = good-length (length (c .before .before .before .before .before .before .before .before .before .args .bytes .now)) (sym (c .before .before .before .before .before .before .is-bad-length .ensures) ∙ c .before .before .before .before .before .if1 .left) in
-    (good .0, omega arith, omega arith, omega arith)
+long-call-requires : tie.Need-long-call-requires
+long-call-requires c κs = good-length (length (c .before .before .before .before .before .before .args .bytes .now)) (sym (c .before .before .before .is-bad-length .ensures) ∙ c .before .before .if1 .left)
 
 same-length-2 : tie.Need-same-length-2
 same-length-2 c = search needs
 
 returns-3 : tie.Need-returns-3
-returns-3 c = search needs
-
-slice-aggregate-rewrite-by-5 : tie.Need-slice-aggregate-rewrite-by-5
-slice-aggregate-rewrite-by-5 c = search needs
-
-slice-aggregate-rewrite-by-6 : tie.Need-slice-aggregate-rewrite-by-6
-slice-aggregate-rewrite-by-6 c = search needs
-
-rewrite-by-requires-3 : tie.Need-rewrite-by-requires-3
-rewrite-by-requires-3 c κs =
-    let good = good-length (length (c .before .before .before .before .before .before .before .before .before .args .bytes .now)) (sym (c .before .before .before .before .before .before .is-bad-length .ensures) ∙ c .before .before .before .before .before .if1 .left) in
-    (good .0, omega (arith, good .1), omega arith, omega arith)
-
-same-length-3 : tie.Need-same-length-3
-same-length-3 c = search needs
-
-returns-4 : tie.Need-returns-4
-returns-4 c = search needs
+returns-3 c = c .before .before .long-call .ensures .0 refl
 
 pub gingerpost-rewrite-spec : {M : Type 1} → statement M
 gingerpost-rewrite-spec =
@@ -80,16 +58,10 @@ gingerpost-rewrite-spec =
     returns
     slice-aggregate-rewrite-by
     slice-aggregate-rewrite-by-2
+    slice-aggregate-rewrite-by-3
     rewrite-by-requires
     same-length
     returns-2
-    slice-aggregate-rewrite-by-3
-    slice-aggregate-rewrite-by-4
-    rewrite-by-requires-2
+    long-call-requires
     same-length-2
-    returns-3
-    slice-aggregate-rewrite-by-5
-    slice-aggregate-rewrite-by-6
-    rewrite-by-requires-3
-    same-length-3
-    returns-4)
+    returns-3)
