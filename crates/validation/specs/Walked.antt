@@ -29,12 +29,16 @@ pub record Here (s : ℕ) (ws : List ℕ) (at : ℕ) (q : Place) : Type 0 where
   pub inside : at < length ws
   pub free : faultAt s q (getD ws at 0) ≡ 0
 
--- the kinds whose children, if any, are expressions: bit k for the kind k
+-- sets of kinds, bit k for the kind k: those without children, and those whose children are expressions only
+unfoldable pub leaves : ℕ
+leaves = 1151185518528
+
 unfoldable pub plain : ℕ
-plain = 1151517851620
+plain = 332333092
 
 -- another kind of the table
 pub record Apart (k : ℕ) : Type 0 where
+  pub leaf : bitOf leaves k ≡ 0
   pub kind : bitOf plain k ≡ 0
   pub known : rowOf k .category ≡ 0 → ⊥
 

@@ -20,7 +20,7 @@ use Rattle.grammar.specs.Rows.{each, each-row, implied, test-left, test-right, 
 use Rattle.grammar.specs.Faults.{Faultless, fault-0}
 use Rattle.validation.specs.declared.Step.{Step}
 use Rattle.validation.specs.declared.Run as Declared
-use Rattle.validation.specs.Walked.{ahead, Good, after, Walked, Rest, Here, plain, Apart, run, Fields, Entry, waiting, Room, Stacked}
+use Rattle.validation.specs.Walked.{ahead, Good, after, Walked, Rest, Here, leaves, plain, Apart, run, Fields, Entry, waiting, Room, Stacked}
 
 -- ---- the stack
 
@@ -175,6 +175,23 @@ or-zero : (y : Bool) (n : ℕ) → T (cond y true (eqb n 0)) → (n ≡ 0 → �
 or-zero true n t m = tt
 or-zero false n t m = absurd (m (eqb→eq n 0 t))
 
+-- none has a child
+unfoldable isEmpty : List Run → Bool
+isEmpty [] = true
+isEmpty (r ∷ rs) = false
+
+unfoldable leafRow : ℕ → ℕ → ℕ → Row → Bool
+leafRow x p k r = cond (isEmpty (r .below x p)) true (eqb (bitOf leaves k) 0)
+
+leaf-row : (k x p : ℕ) → (bitOf leaves k ≡ 0 → ⊥) → T (isEmpty (rowOf k .below x p))
+unfolding each table row noRow leaf expressions oneExpression statements leafRow isEmpty leaves bitOf
+leaf-row k x p b = or-zero (isEmpty (rowOf k .below x p)) (bitOf leaves k) (each-row (leafRow x p) tt k tt) b
+
+leaf-places : (d : ℕ) (rs : List Run) → T (isEmpty rs) → places d rs ≡ []
+unfolding isEmpty places
+leaf-places d [] t = refl
+leaf-places d (r ∷ rs) t = absurd t
+
 plain-row : (k x p : ℕ) → (bitOf plain k ≡ 0 → ⊥) → T (onlyExpressions (rowOf k .below x p))
 unfolding each table row noRow leaf expressions oneExpression statements plainRow onlyExpressions plain bitOf
 plain-row k x p b = or-zero (onlyExpressions (rowOf k .below x p)) (bitOf plain k) (each-row (plainRow x p) tt k tt) b
@@ -196,7 +213,7 @@ named k = lookup k ((1, true) ∷ (4, true) ∷ (20, true) ∷ (21, true) ∷ (2
 
 -- the others have statements
 unfoldable otherRow : ℕ → Row → Bool
-otherRow k r = cond (eqb (r .category) 0) true (cond (eqb (bitOf plain k) 0) (cond (named k) true (cond (eqb k 3) true (cond (eqb k 33) true (eqb k 39)))) true)
+otherRow k r = cond (eqb (r .category) 0) true (cond (eqb (bitOf leaves k) 0) (cond (eqb (bitOf plain k) 0) (cond (named k) true (cond (eqb k 3) true (cond (eqb k 33) true (eqb k 39)))) true) true)
 
 pub named-none : (j k : ℕ) → j ≡ k → (j ≡ 1 → ⊥) → (j ≡ 4 → ⊥) → (j ≡ 20 → ⊥) → (j ≡ 21 → ⊥) → (j ≡ 26 → ⊥) → (j ≡ 29 → ⊥) → (j ≡ 30 → ⊥) → (j ≡ 31 → ⊥) → (j ≡ 32 → ⊥) → (j ≡ 36 → ⊥) → (j ≡ 37 → ⊥) → named k ≡ false
 unfolding named lookup
@@ -210,13 +227,14 @@ module _ {k p p′ : ℕ} (x left : ℕ) (ep : p ≡ p′) where
   row-of n ek e = ap (λ (m : ℕ). places (maxDepth + 1 - left) (rowOf m .below x p′)) (sym ek ∙ e) ∙ ap (λ (m : ℕ). places (maxDepth + 1 - left) (rowOf n .below x m)) (sym ep)
 
   pub row-other : Apart k → named k ≡ false → places (maxDepth + 1 - left) (rowOf k .below x p′) ≡ run Statement 0 left p ++ []
-  unfolding each table row noRow otherRow named lookup rowOf places statements run plain bitOf
+  unfolding each table row noRow otherRow named lookup rowOf places statements run leaves plain bitOf
   row-other a n = three (eqb k 3) refl (eqb k 33) refl t
     where
       t : T (cond (eqb k 3) true (cond (eqb k 33) true (eqb k 39)))
       t =
-          let u = subst (λ (b : Bool). T (cond b true (cond (eqb (bitOf plain k) 0) (cond (named k) true (cond (eqb k 3) true (cond (eqb k 33) true (eqb k 39)))) true))) (ne-eqb (rowOf k .category) 0 (a .known)) (each-row otherRow tt k tt) in
-          subst (λ (b : Bool). T (cond b true (cond (eqb k 3) true (cond (eqb k 33) true (eqb k 39))))) n (implied (eqb (bitOf plain k) 0) _ u (eq-eqb (bitOf plain k) 0 (a .kind)))
+          let u = subst (λ (b : Bool). T (cond b true (cond (eqb (bitOf leaves k) 0) (cond (eqb (bitOf plain k) 0) (cond (named k) true (cond (eqb k 3) true (cond (eqb k 33) true (eqb k 39)))) true) true))) (ne-eqb (rowOf k .category) 0 (a .known)) (each-row otherRow tt k tt) in
+          let v = implied (eqb (bitOf plain k) 0) _ (implied (eqb (bitOf leaves k) 0) _ u (eq-eqb (bitOf leaves k) 0 (a .leaf))) (eq-eqb (bitOf plain k) 0 (a .kind)) in
+          subst (λ (b : Bool). T (cond b true (cond (eqb k 3) true (cond (eqb k 33) true (eqb k 39))))) n v
 
       three : (y : Bool) → eqb k 3 ≡ y → (z : Bool) → eqb k 33 ≡ z → T (cond y true (cond z true (eqb k 39))) → places (maxDepth + 1 - left) (rowOf k .below x p′) ≡ run Statement 0 left p ++ []
       three true e z f u = row-of 3 refl (eqb-true k 3 e)
@@ -268,6 +286,10 @@ module _ {s : ℕ} {ws : List ℕ} {at : ℕ} {qs : List Place} {p : ℕ} (c x l
       pub scan-below : left ≤ maxDepth → {new : List Place} (all : List Place) → new ≡ more → all ≡ places (maxDepth + 1 - (left - 1)) (rowOf (kindOf (getD ws p 0)) .below x (payloadOf (getD ws p 0))) ++ new → Rest s ws at qs (p + 1) all
       scan-below le {new} all en ea = rest-as (sym (ea ∙ ap (places (maxDepth + 1 - (left - 1)) (rowOf (kindOf (getD ws p 0)) .below x (payloadOf (getD ws p 0))) ++_) en ∙ ap (_++ more) (sym (below-places le)))) scan-one
 
+      -- it has no children
+      pub scan-leaf : left ≤ maxDepth → (bitOf leaves (kindOf (getD ws p 0)) ≡ 0 → ⊥) → Rest s ws at qs (p + 1) more
+      scan-leaf le b = rest-as (ap (_++ more) (below-places le ∙ leaf-places (maxDepth + 1 - (left - 1)) (rowOf (kindOf (getD ws p 0)) .below x (payloadOf (getD ws p 0))) (leaf-row (kindOf (getD ws p 0)) x (payloadOf (getD ws p 0)) b))) scan-one
+
       -- its m children are expressions
       module _ (m : ℕ) (le : left ≤ maxDepth) (b : bitOf plain (kindOf (getD ws p 0)) ≡ 0 → ⊥) (em : m ≡ children (kindOf (getD ws p 0)) (payloadOf (getD ws p 0))) where
         plain-below : belowAt q (getD ws p 0) ≡ run 4 0 (left - 1) m
@@ -275,10 +297,6 @@ module _ {s : ℕ} {ws : List ℕ} {at : ℕ} {qs : List Place} {p : ℕ} (c x l
         plain-below =
             below-places le ∙ plain-places (maxDepth + 1 - (left - 1)) (rowOf (kindOf (getD ws p 0)) .below x (payloadOf (getD ws p 0))) (plain-row (kindOf (getD ws p 0)) x (payloadOf (getD ws p 0)) b)
             ∙ ap (λ (j : ℕ). replicate j (place expression (maxDepth + 1 - (left - 1)))) (here-total c x (maxDepth + 1 - left) here ∙ sym em)
-
-        pub scan-leaf : m ≡ 0 → Rest s ws at qs (p + 1) more
-        unfolding run
-        scan-leaf o = rest-as (ap (_++ more) (plain-below ∙ ap (λ (j : ℕ). run 4 0 (left - 1) j) o)) scan-one
 
         pub scan-plain : {new : List Place} → new ≡ more → Rest s ws at qs (p + 1) (run 4 0 (left - 1) m ++ new)
         scan-plain en = rest-as (ap (_++ more) plain-below ∙ ap (run 4 0 (left - 1) m ++_) (sym en)) scan-one

@@ -37,10 +37,8 @@ pub struct Run {
     pub top: usize,
 }
 
-// The kinds whose children, if any, are expressions only: bit k for the kind k.
-const PLAIN_KINDS: u64 = 1 << 2
-    | 1 << 5
-    | 1 << 6
+// Sets of kinds, bit k for the kind k: those without children, and those whose children are expressions only.
+const LEAVES: u64 = 1 << 6
     | 1 << 7
     | 1 << 8
     | 1 << 9
@@ -50,6 +48,13 @@ const PLAIN_KINDS: u64 = 1 << 2
     | 1 << 13
     | 1 << 14
     | 1 << 15
+    | 1 << 27
+    | 1 << 34
+    | 1 << 35
+    | 1 << 40;
+
+const PLAIN_KINDS: u64 = 1 << 2
+    | 1 << 5
     | 1 << 16
     | 1 << 17
     | 1 << 18
@@ -58,11 +63,7 @@ const PLAIN_KINDS: u64 = 1 << 2
     | 1 << 23
     | 1 << 24
     | 1 << 25
-    | 1 << 27
-    | 1 << 28
-    | 1 << 34
-    | 1 << 35
-    | 1 << 40;
+    | 1 << 28;
 
 // The other runs that wait stand on a stack, the next one on top. A level takes four entries or fewer.
 const ROOM: usize = 256;
@@ -136,7 +137,7 @@ fn push_field(stack: &mut [u64; ROOM], top: usize, left: u32, n: u64) -> usize
     push(stack, a, grammar::EXPRESSION, grammar::AS_KEY, left, 1)
 }
 
-// The children of a record whose kind is not in PLAIN_KINDS: the first run, the others below it on the stack.
+// The children of a record whose kind is in neither set: the first run, the others below it on the stack.
 fn children(stack: &mut [u64; ROOM], top: usize, context: u32, left: u32, w: u32) -> Run
     requires { ⌜ Apart (kindOf w) × Room (now stack) top × (top + 3 + 4 * left ≤ 256) × (context < 67108864) ⌝ }
     ensures { λ r. ⌜ (ahead (now (stack .exit)) r ≡ places (maxDepth + 1 - left) (rowOf (kindOf w) .below context (payloadOf w)) ++ waiting (now (stack .entry)) top) × Good (now (stack .exit)) r ⌝ }
@@ -301,20 +302,7 @@ fn scan(ws: &[u32], s: u32) -> Step
             return Step { fault: f, next: at };
         }
         at += 1;
-        if words::kind_bit(PLAIN_KINDS, w) == 0 {
-            let t = push(
-                &mut stack,
-                r.top,
-                r.category,
-                r.context,
-                r.left,
-                r.count - 1,
-            );
-            run = children(&mut stack, t, r.context, r.left - 1, w);
-            continue;
-        }
-        let m = words::child_count(w) as u64;
-        if m == 0 {
+        if words::kind_bit(LEAVES, w) != 0 {
             run = Run {
                 category: r.category,
                 context: r.context,
@@ -332,11 +320,15 @@ fn scan(ws: &[u32], s: u32) -> Step
             r.left,
             r.count - 1,
         );
+        if words::kind_bit(PLAIN_KINDS, w) == 0 {
+            run = children(&mut stack, t, r.context, r.left - 1, w);
+            continue;
+        }
         run = Run {
             category: grammar::EXPRESSION,
             context: grammar::PLAIN,
             left: r.left - 1,
-            count: m,
+            count: words::child_count(w) as u64,
             top: t,
         };
     }

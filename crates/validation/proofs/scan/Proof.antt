@@ -1,5 +1,5 @@
 -- `scan`: what is left of the walk is that of the places ahead; each turn reads a word.
-use Rattle.validation.specs.Walked.{Rest, plain, run, waiting, ahead, Good}
+use Rattle.validation.specs.Walked.{Rest, leaves, plain, run, waiting, ahead, Good}
 use Rattle.validation.specs.Walks.{rest-as, scan-done, scan-end, scan-fault, scan-depth, scan-known, scan-below, scan-leaf, scan-plain}
 use Rattle.grammar.specs.Scan.{place}
 use Rattle.grammar.specs.Grammar.{module′}
@@ -54,6 +54,18 @@ add-at c = omega (arith, c .before .before .before .if2 .left)
 kind-bit-requires : tie.Need-kind-bit-requires Inv-loop μ-loop
 kind-bit-requires c κs = search needs
 
+sub-t15 : tie.Need-sub-t15 Inv-loop μ-loop
+sub-t15 c = omega (arith, c .before .before .before .before .before .before .before .if1 .left)
+
+loop-less : tie.Need-loop-less Inv-loop μ-loop
+loop-less c = omega (arith, c .before .before .before .before .before .before .if2 .left)
+
+loop-again : tie.Need-loop-again Inv-loop μ-loop
+unfolding ahead leaves
+loop-again c =
+    let le : c .before .before .before .before .before .before .before .before .before .next .result .left ≤ maxDepth = omega (arith, c .before .before .before .before .before .before .before .before .before .next .ensures .1 .levels) in
+    (record { fields = record { category = c .before .before .before .before .before .before .before .before .before .next .ensures .1 .fields .category; context = c .before .before .before .before .before .before .before .before .before .next .ensures .1 .fields .context; count = omega (arith, c .before .before .before .before .before .before .before .before .before .next .ensures .1 .fields .count) }; room = c .before .before .before .before .before .before .before .before .before .next .ensures .1 .room; levels = c .before .before .before .before .before .before .before .before .before .next .ensures .1 .levels }, scan-leaf (c .before .before .before .before .before .before .before .before .before .next .result .category) (c .before .before .before .before .before .before .before .before .before .next .result .context) (c .before .before .before .before .before .before .before .before .before .next .result .left) (c .before .before .before .before .before .before .before .before .before .next .result .count) _ (rest-as (sym (c .before .before .before .before .before .before .before .before .before .next .ensures .0)) (c .before .before .before .before .before .before .before .before .before .before .before .loop .inv .1)) (c .before .before .before .before .before .before .before .if1 .left) (c .before .before .before .before .fault .result) (c .before .before .before .before .before .before .if2 .left) (c .before .before .before .before .fault .ensures) (c .before .before .before .if3 .left) le (λ z. c .before .if4 .taken (c .before .before .kind-bit .ensures .0 ∙ z)))
+
 sub-push : tie.Need-sub-push Inv-loop μ-loop
 sub-push c = omega (arith, c .before .before .before .before .before .before .before .before .if1 .left)
 
@@ -63,70 +75,52 @@ push-requires c κs =
     let d = scan-depth (c .before .before .before .before .before .before .before .before .before .before .next .result .category) (c .before .before .before .before .before .before .before .before .before .before .next .result .context) (c .before .before .before .before .before .before .before .before .before .before .next .result .left) (c .before .before .before .before .before .before .before .before .before .before .next .result .count) _ (rest-as (sym (c .before .before .before .before .before .before .before .before .before .before .next .ensures .0)) (c .before .before .before .before .before .before .before .before .before .before .before .before .loop .inv .1)) (c .before .before .before .before .before .before .before .before .if1 .left) (c .before .before .before .before .before .fault .result) (c .before .before .before .before .before .before .before .if2 .left) (c .before .before .before .before .before .fault .ensures) (c .before .before .before .before .if3 .left) in
     (record { category = c .before .before .before .before .before .before .before .before .before .before .next .ensures .1 .fields .category; context = c .before .before .before .before .before .before .before .before .before .before .next .ensures .1 .fields .context; count = omega (arith, c .before .before .before .before .before .before .before .before .before .before .next .ensures .1 .fields .count) }, c .before .before .before .before .before .before .before .before .before .before .next .ensures .1 .room, omega (arith, d, c .before .before .before .before .before .before .before .before .before .before .next .ensures .1 .levels), c .before .before .before .before .before .before .before .before .before .before .next .ensures .1 .levels)
 
+kind-bit-requires-2 : tie.Need-kind-bit-requires-2 Inv-loop μ-loop
+kind-bit-requires-2 c κs = search needs
+
 sub-children : tie.Need-sub-children Inv-loop μ-loop
 unfolding ahead
 sub-children c =
-    let d = scan-depth (c .before .before .before .before .before .before .before .before .before .before .before .before .before .next .result .category) (c .before .before .before .before .before .before .before .before .before .before .before .before .before .next .result .context) (c .before .before .before .before .before .before .before .before .before .before .before .before .before .next .result .left) (c .before .before .before .before .before .before .before .before .before .before .before .before .before .next .result .count) _ (rest-as (sym (c .before .before .before .before .before .before .before .before .before .before .before .before .before .next .ensures .0)) (c .before .before .before .before .before .before .before .before .before .before .before .before .before .before .before .loop .inv .1)) (c .before .before .before .before .before .before .before .before .before .before .before .if1 .left) (c .before .before .before .before .before .before .before .before .fault .result) (c .before .before .before .before .before .before .before .before .before .before .if2 .left) (c .before .before .before .before .before .before .before .before .fault .ensures) (c .before .before .before .before .before .before .before .if3 .left) in
+    let d = scan-depth (c .before .before .before .before .before .before .before .before .before .before .before .before .before .before .before .next .result .category) (c .before .before .before .before .before .before .before .before .before .before .before .before .before .before .before .next .result .context) (c .before .before .before .before .before .before .before .before .before .before .before .before .before .before .before .next .result .left) (c .before .before .before .before .before .before .before .before .before .before .before .before .before .before .before .next .result .count) _ (rest-as (sym (c .before .before .before .before .before .before .before .before .before .before .before .before .before .before .before .next .ensures .0)) (c .before .before .before .before .before .before .before .before .before .before .before .before .before .before .before .before .before .loop .inv .1)) (c .before .before .before .before .before .before .before .before .before .before .before .before .before .if1 .left) (c .before .before .before .before .before .before .before .before .before .before .fault .result) (c .before .before .before .before .before .before .before .before .before .before .before .before .if2 .left) (c .before .before .before .before .before .before .before .before .before .before .fault .ensures) (c .before .before .before .before .before .before .before .before .before .if3 .left) in
     omega arith
 
 children-requires : tie.Need-children-requires Inv-loop μ-loop
-unfolding ahead plain
+unfolding ahead leaves plain
 children-requires c κs =
-    let d = scan-depth (c .before .before .before .before .before .before .before .before .before .before .before .before .before .next .result .category) (c .before .before .before .before .before .before .before .before .before .before .before .before .before .next .result .context) (c .before .before .before .before .before .before .before .before .before .before .before .before .before .next .result .left) (c .before .before .before .before .before .before .before .before .before .before .before .before .before .next .result .count) _ (rest-as (sym (c .before .before .before .before .before .before .before .before .before .before .before .before .before .next .ensures .0)) (c .before .before .before .before .before .before .before .before .before .before .before .before .before .before .before .loop .inv .1)) (c .before .before .before .before .before .before .before .before .before .before .before .if1 .left) (c .before .before .before .before .before .before .before .before .fault .result) (c .before .before .before .before .before .before .before .before .before .before .if2 .left) (c .before .before .before .before .before .before .before .before .fault .ensures) (c .before .before .before .before .before .before .before .if3 .left) in
-    (record { kind = sym (c .before .before .before .before .before .before .kind-bit .ensures .0) ∙ c .before .before .before .before .before .if4 .taken; known = scan-known (c .before .before .before .before .before .before .before .before .before .before .before .before .before .next .result .category) (c .before .before .before .before .before .before .before .before .before .before .before .before .before .next .result .context) (c .before .before .before .before .before .before .before .before .before .before .before .before .before .next .result .left) (c .before .before .before .before .before .before .before .before .before .before .before .before .before .next .result .count) _ (rest-as (sym (c .before .before .before .before .before .before .before .before .before .before .before .before .before .next .ensures .0)) (c .before .before .before .before .before .before .before .before .before .before .before .before .before .before .before .loop .inv .1)) (c .before .before .before .before .before .before .before .before .before .before .before .if1 .left) (c .before .before .before .before .before .before .before .before .fault .result) (c .before .before .before .before .before .before .before .before .before .before .if2 .left) (c .before .before .before .before .before .before .before .before .fault .ensures) (c .before .before .before .before .before .before .before .if3 .left) }, c .before .before .push .ensures .room, omega (arith, d, c .before .before .before .before .before .before .before .before .before .before .before .before .before .next .ensures .1 .levels, c .before .before .push .ensures .few), c .before .before .before .before .before .before .before .before .before .before .before .before .before .next .ensures .1 .fields .context)
+    let d = scan-depth (c .before .before .before .before .before .before .before .before .before .before .before .before .before .before .before .next .result .category) (c .before .before .before .before .before .before .before .before .before .before .before .before .before .before .before .next .result .context) (c .before .before .before .before .before .before .before .before .before .before .before .before .before .before .before .next .result .left) (c .before .before .before .before .before .before .before .before .before .before .before .before .before .before .before .next .result .count) _ (rest-as (sym (c .before .before .before .before .before .before .before .before .before .before .before .before .before .before .before .next .ensures .0)) (c .before .before .before .before .before .before .before .before .before .before .before .before .before .before .before .before .before .loop .inv .1)) (c .before .before .before .before .before .before .before .before .before .before .before .before .before .if1 .left) (c .before .before .before .before .before .before .before .before .before .before .fault .result) (c .before .before .before .before .before .before .before .before .before .before .before .before .if2 .left) (c .before .before .before .before .before .before .before .before .before .before .fault .ensures) (c .before .before .before .before .before .before .before .before .before .if3 .left) in
+    (record { leaf = sym (c .before .before .before .before .before .before .before .before .kind-bit .ensures .0) ∙ c .before .before .before .before .before .before .before .if4 .left; kind = sym (c .before .before .before .kind-bit2 .ensures .0) ∙ c .before .before .if5 .taken; known = scan-known (c .before .before .before .before .before .before .before .before .before .before .before .before .before .before .before .next .result .category) (c .before .before .before .before .before .before .before .before .before .before .before .before .before .before .before .next .result .context) (c .before .before .before .before .before .before .before .before .before .before .before .before .before .before .before .next .result .left) (c .before .before .before .before .before .before .before .before .before .before .before .before .before .before .before .next .result .count) _ (rest-as (sym (c .before .before .before .before .before .before .before .before .before .before .before .before .before .before .before .next .ensures .0)) (c .before .before .before .before .before .before .before .before .before .before .before .before .before .before .before .before .before .loop .inv .1)) (c .before .before .before .before .before .before .before .before .before .before .before .before .before .if1 .left) (c .before .before .before .before .before .before .before .before .before .before .fault .result) (c .before .before .before .before .before .before .before .before .before .before .before .before .if2 .left) (c .before .before .before .before .before .before .before .before .before .before .fault .ensures) (c .before .before .before .before .before .before .before .before .before .if3 .left) }, c .before .before .before .before .push .ensures .room, omega (arith, d, c .before .before .before .before .before .before .before .before .before .before .before .before .before .before .before .next .ensures .1 .levels, c .before .before .before .before .push .ensures .few), c .before .before .before .before .before .before .before .before .before .before .before .before .before .before .before .next .ensures .1 .fields .context)
 
-loop-less : tie.Need-loop-less Inv-loop μ-loop
-loop-less c = omega (arith, c .before .before .before .before .before .before .before .before .before .before .before .if2 .left)
+loop-less-2 : tie.Need-loop-less-2 Inv-loop μ-loop
+loop-less-2 c = omega (arith, c .before .before .before .before .before .before .before .before .before .before .before .before .before .if2 .left)
 
-loop-again : tie.Need-loop-again Inv-loop μ-loop
+loop-again-2 : tie.Need-loop-again-2 Inv-loop μ-loop
 unfolding ahead
-loop-again c =
-    let le : c .before .before .before .before .before .before .before .before .before .before .before .before .before .before .next .result .left ≤ maxDepth = omega (arith, c .before .before .before .before .before .before .before .before .before .before .before .before .before .before .next .ensures .1 .levels) in
-    (c .children .ensures .1, scan-below (c .before .before .before .before .before .before .before .before .before .before .before .before .before .before .next .result .category) (c .before .before .before .before .before .before .before .before .before .before .before .before .before .before .next .result .context) (c .before .before .before .before .before .before .before .before .before .before .before .before .before .before .next .result .left) (c .before .before .before .before .before .before .before .before .before .before .before .before .before .before .next .result .count) _ (rest-as (sym (c .before .before .before .before .before .before .before .before .before .before .before .before .before .before .next .ensures .0)) (c .before .before .before .before .before .before .before .before .before .before .before .before .before .before .before .before .loop .inv .1)) (c .before .before .before .before .before .before .before .before .before .before .before .before .if1 .left) (c .before .before .before .before .before .before .before .before .before .fault .result) (c .before .before .before .before .before .before .before .before .before .before .before .if2 .left) (c .before .before .before .before .before .before .before .before .before .fault .ensures) (c .before .before .before .before .before .before .before .before .if3 .left) le _ (c .before .before .before .push .ensures .places) (c .children .ensures .0))
+loop-again-2 c =
+    let le : c .before .before .before .before .before .before .before .before .before .before .before .before .before .before .before .before .next .result .left ≤ maxDepth = omega (arith, c .before .before .before .before .before .before .before .before .before .before .before .before .before .before .before .before .next .ensures .1 .levels) in
+    (c .children .ensures .1, scan-below (c .before .before .before .before .before .before .before .before .before .before .before .before .before .before .before .before .next .result .category) (c .before .before .before .before .before .before .before .before .before .before .before .before .before .before .before .before .next .result .context) (c .before .before .before .before .before .before .before .before .before .before .before .before .before .before .before .before .next .result .left) (c .before .before .before .before .before .before .before .before .before .before .before .before .before .before .before .before .next .result .count) _ (rest-as (sym (c .before .before .before .before .before .before .before .before .before .before .before .before .before .before .before .before .next .ensures .0)) (c .before .before .before .before .before .before .before .before .before .before .before .before .before .before .before .before .before .before .loop .inv .1)) (c .before .before .before .before .before .before .before .before .before .before .before .before .before .before .if1 .left) (c .before .before .before .before .before .before .before .before .before .before .before .fault .result) (c .before .before .before .before .before .before .before .before .before .before .before .before .before .if2 .left) (c .before .before .before .before .before .before .before .before .before .before .before .fault .ensures) (c .before .before .before .before .before .before .before .before .before .before .if3 .left) le _ (c .before .before .before .before .before .push .ensures .places) (c .children .ensures .0))
+
+sub-t14 : tie.Need-sub-t14 Inv-loop μ-loop
+unfolding ahead
+sub-t14 c =
+    let d = scan-depth (c .before .before .before .before .before .before .before .before .before .before .before .before .before .before .next .result .category) (c .before .before .before .before .before .before .before .before .before .before .before .before .before .before .next .result .context) (c .before .before .before .before .before .before .before .before .before .before .before .before .before .before .next .result .left) (c .before .before .before .before .before .before .before .before .before .before .before .before .before .before .next .result .count) _ (rest-as (sym (c .before .before .before .before .before .before .before .before .before .before .before .before .before .before .next .ensures .0)) (c .before .before .before .before .before .before .before .before .before .before .before .before .before .before .before .before .loop .inv .1)) (c .before .before .before .before .before .before .before .before .before .before .before .before .if1 .left) (c .before .before .before .before .before .before .before .before .before .fault .result) (c .before .before .before .before .before .before .before .before .before .before .before .if2 .left) (c .before .before .before .before .before .before .before .before .before .fault .ensures) (c .before .before .before .before .before .before .before .before .if3 .left) in
+    omega arith
 
 child-count-requires : tie.Need-child-count-requires Inv-loop μ-loop
 child-count-requires c κs = search needs
 
-cast-m : tie.Need-cast-m Inv-loop μ-loop
-cast-m c = search needs
-
-sub-t21 : tie.Need-sub-t21 Inv-loop μ-loop
-sub-t21 c = omega (arith, c .before .before .before .before .before .before .before .before .before .if1 .left)
-
-loop-less-2 : tie.Need-loop-less-2 Inv-loop μ-loop
-loop-less-2 c = omega (arith, c .before .before .before .before .before .before .before .before .if2 .left)
-
-loop-again-2 : tie.Need-loop-again-2 Inv-loop μ-loop
-unfolding ahead plain
-loop-again-2 c =
-    let le : c .before .before .before .before .before .before .before .before .before .before .before .next .result .left ≤ maxDepth = omega (arith, c .before .before .before .before .before .before .before .before .before .before .before .next .ensures .1 .levels) in
-    (record { fields = record { category = c .before .before .before .before .before .before .before .before .before .before .before .next .ensures .1 .fields .category; context = c .before .before .before .before .before .before .before .before .before .before .before .next .ensures .1 .fields .context; count = omega (arith, c .before .before .before .before .before .before .before .before .before .before .before .next .ensures .1 .fields .count) }; room = c .before .before .before .before .before .before .before .before .before .before .before .next .ensures .1 .room; levels = c .before .before .before .before .before .before .before .before .before .before .before .next .ensures .1 .levels }, scan-leaf (c .before .before .before .before .before .before .before .before .before .before .before .next .result .category) (c .before .before .before .before .before .before .before .before .before .before .before .next .result .context) (c .before .before .before .before .before .before .before .before .before .before .before .next .result .left) (c .before .before .before .before .before .before .before .before .before .before .before .next .result .count) _ (rest-as (sym (c .before .before .before .before .before .before .before .before .before .before .before .next .ensures .0)) (c .before .before .before .before .before .before .before .before .before .before .before .before .before .loop .inv .1)) (c .before .before .before .before .before .before .before .before .before .if1 .left) (c .before .before .before .before .before .before .fault .result) (c .before .before .before .before .before .before .before .before .if2 .left) (c .before .before .before .before .before .before .fault .ensures) (c .before .before .before .before .before .if3 .left) (c .before .before .child-count .result) le (λ z. c .before .before .before .if4 .left (c .before .before .before .before .kind-bit .ensures .0 ∙ z)) (c .before .before .child-count .ensures) (c .before .if5 .taken))
-
-sub-push-2 : tie.Need-sub-push-2 Inv-loop μ-loop
-sub-push-2 c = omega (arith, c .before .before .before .before .before .before .before .before .before .before .if1 .left)
-
-push-requires-2 : tie.Need-push-requires-2 Inv-loop μ-loop
-unfolding ahead
-push-requires-2 c κs =
-    let d = scan-depth (c .before .before .before .before .before .before .before .before .before .before .before .before .next .result .category) (c .before .before .before .before .before .before .before .before .before .before .before .before .next .result .context) (c .before .before .before .before .before .before .before .before .before .before .before .before .next .result .left) (c .before .before .before .before .before .before .before .before .before .before .before .before .next .result .count) _ (rest-as (sym (c .before .before .before .before .before .before .before .before .before .before .before .before .next .ensures .0)) (c .before .before .before .before .before .before .before .before .before .before .before .before .before .before .loop .inv .1)) (c .before .before .before .before .before .before .before .before .before .before .if1 .left) (c .before .before .before .before .before .before .before .fault .result) (c .before .before .before .before .before .before .before .before .before .if2 .left) (c .before .before .before .before .before .before .before .fault .ensures) (c .before .before .before .before .before .before .if3 .left) in
-    (record { category = c .before .before .before .before .before .before .before .before .before .before .before .before .next .ensures .1 .fields .category; context = c .before .before .before .before .before .before .before .before .before .before .before .before .next .ensures .1 .fields .context; count = omega (arith, c .before .before .before .before .before .before .before .before .before .before .before .before .next .ensures .1 .fields .count) }, c .before .before .before .before .before .before .before .before .before .before .before .before .next .ensures .1 .room, omega (arith, d, c .before .before .before .before .before .before .before .before .before .before .before .before .next .ensures .1 .levels), c .before .before .before .before .before .before .before .before .before .before .before .before .next .ensures .1 .levels)
-
-sub-t16 : tie.Need-sub-t16 Inv-loop μ-loop
-unfolding ahead
-sub-t16 c =
-    let d = scan-depth (c .before .before .before .before .before .before .before .before .before .before .before .before .before .before .next .result .category) (c .before .before .before .before .before .before .before .before .before .before .before .before .before .before .next .result .context) (c .before .before .before .before .before .before .before .before .before .before .before .before .before .before .next .result .left) (c .before .before .before .before .before .before .before .before .before .before .before .before .before .before .next .result .count) _ (rest-as (sym (c .before .before .before .before .before .before .before .before .before .before .before .before .before .before .next .ensures .0)) (c .before .before .before .before .before .before .before .before .before .before .before .before .before .before .before .before .loop .inv .1)) (c .before .before .before .before .before .before .before .before .before .before .before .before .if1 .left) (c .before .before .before .before .before .before .before .before .before .fault .result) (c .before .before .before .before .before .before .before .before .before .before .before .if2 .left) (c .before .before .before .before .before .before .before .before .before .fault .ensures) (c .before .before .before .before .before .before .before .before .if3 .left) in
-    omega arith
+cast-t17 : tie.Need-cast-t17 Inv-loop μ-loop
+cast-t17 c = search needs
 
 loop-less-3 : tie.Need-loop-less-3 Inv-loop μ-loop
-loop-less-3 c = omega (arith, c .before .before .before .before .before .before .before .before .before .before .before .if2 .left)
+loop-less-3 c = omega (arith, c .before .before .before .before .before .before .before .before .before .before .before .before .if2 .left)
 
 loop-again-3 : tie.Need-loop-again-3 Inv-loop μ-loop
 unfolding ahead plain
 loop-again-3 c =
-    let w = getD (c .before .before .before .before .before .before .before .before .before .before .before .before .before .before .before .before .before .before .args .ws .now) (c .before .before .before .before .before .before .before .before .before .before .before .before .before .before .before .before .loop .at) 0 in
-    let le : c .before .before .before .before .before .before .before .before .before .before .before .before .before .before .next .result .left ≤ maxDepth = omega (arith, c .before .before .before .before .before .before .before .before .before .before .before .before .before .before .next .ensures .1 .levels) in
-    let d = scan-depth (c .before .before .before .before .before .before .before .before .before .before .before .before .before .before .next .result .category) (c .before .before .before .before .before .before .before .before .before .before .before .before .before .before .next .result .context) (c .before .before .before .before .before .before .before .before .before .before .before .before .before .before .next .result .left) (c .before .before .before .before .before .before .before .before .before .before .before .before .before .before .next .result .count) _ (rest-as (sym (c .before .before .before .before .before .before .before .before .before .before .before .before .before .before .next .ensures .0)) (c .before .before .before .before .before .before .before .before .before .before .before .before .before .before .before .before .loop .inv .1)) (c .before .before .before .before .before .before .before .before .before .before .before .before .if1 .left) (c .before .before .before .before .before .before .before .before .before .fault .result) (c .before .before .before .before .before .before .before .before .before .before .before .if2 .left) (c .before .before .before .before .before .before .before .before .before .fault .ensures) (c .before .before .before .before .before .before .before .before .if3 .left) in
-    (record { fields = record { category = omega arith; context = omega arith; count = omega (arith, c .before .before .before .before .before .child-count .ensures, children-le (kindOf w) (payloadOf w), payload-lt w) }; room = c .before .push2 .ensures .room; levels = omega (arith, d, c .before .before .before .before .before .before .before .before .before .before .before .before .before .before .next .ensures .1 .levels, c .before .push2 .ensures .few) }, scan-plain (c .before .before .before .before .before .before .before .before .before .before .before .before .before .before .next .result .category) (c .before .before .before .before .before .before .before .before .before .before .before .before .before .before .next .result .context) (c .before .before .before .before .before .before .before .before .before .before .before .before .before .before .next .result .left) (c .before .before .before .before .before .before .before .before .before .before .before .before .before .before .next .result .count) _ (rest-as (sym (c .before .before .before .before .before .before .before .before .before .before .before .before .before .before .next .ensures .0)) (c .before .before .before .before .before .before .before .before .before .before .before .before .before .before .before .before .loop .inv .1)) (c .before .before .before .before .before .before .before .before .before .before .before .before .if1 .left) (c .before .before .before .before .before .before .before .before .before .fault .result) (c .before .before .before .before .before .before .before .before .before .before .before .if2 .left) (c .before .before .before .before .before .before .before .before .before .fault .ensures) (c .before .before .before .before .before .before .before .before .if3 .left) (c .before .before .before .before .before .child-count .result) le (λ z. c .before .before .before .before .before .before .if4 .left (c .before .before .before .before .before .before .before .kind-bit .ensures .0 ∙ z)) (c .before .before .before .before .before .child-count .ensures) (c .before .push2 .ensures .places))
+    let w = getD (c .before .before .before .before .before .before .before .before .before .before .before .before .before .before .before .before .before .before .before .args .ws .now) (c .before .before .before .before .before .before .before .before .before .before .before .before .before .before .before .before .before .loop .at) 0 in
+    let le : c .before .before .before .before .before .before .before .before .before .before .before .before .before .before .before .next .result .left ≤ maxDepth = omega (arith, c .before .before .before .before .before .before .before .before .before .before .before .before .before .before .before .next .ensures .1 .levels) in
+    let d = scan-depth (c .before .before .before .before .before .before .before .before .before .before .before .before .before .before .before .next .result .category) (c .before .before .before .before .before .before .before .before .before .before .before .before .before .before .before .next .result .context) (c .before .before .before .before .before .before .before .before .before .before .before .before .before .before .before .next .result .left) (c .before .before .before .before .before .before .before .before .before .before .before .before .before .before .before .next .result .count) _ (rest-as (sym (c .before .before .before .before .before .before .before .before .before .before .before .before .before .before .before .next .ensures .0)) (c .before .before .before .before .before .before .before .before .before .before .before .before .before .before .before .before .before .loop .inv .1)) (c .before .before .before .before .before .before .before .before .before .before .before .before .before .if1 .left) (c .before .before .before .before .before .before .before .before .before .before .fault .result) (c .before .before .before .before .before .before .before .before .before .before .before .before .if2 .left) (c .before .before .before .before .before .before .before .before .before .before .fault .ensures) (c .before .before .before .before .before .before .before .before .before .if3 .left) in
+    (record { fields = record { category = omega arith; context = omega arith; count = omega (arith, c .child-count .ensures, children-le (kindOf w) (payloadOf w), payload-lt w) }; room = c .before .before .before .before .push .ensures .room; levels = omega (arith, d, c .before .before .before .before .before .before .before .before .before .before .before .before .before .before .before .next .ensures .1 .levels, c .before .before .before .before .push .ensures .few) }, scan-plain (c .before .before .before .before .before .before .before .before .before .before .before .before .before .before .before .next .result .category) (c .before .before .before .before .before .before .before .before .before .before .before .before .before .before .before .next .result .context) (c .before .before .before .before .before .before .before .before .before .before .before .before .before .before .before .next .result .left) (c .before .before .before .before .before .before .before .before .before .before .before .before .before .before .before .next .result .count) _ (rest-as (sym (c .before .before .before .before .before .before .before .before .before .before .before .before .before .before .before .next .ensures .0)) (c .before .before .before .before .before .before .before .before .before .before .before .before .before .before .before .before .before .loop .inv .1)) (c .before .before .before .before .before .before .before .before .before .before .before .before .before .if1 .left) (c .before .before .before .before .before .before .before .before .before .before .fault .result) (c .before .before .before .before .before .before .before .before .before .before .before .before .if2 .left) (c .before .before .before .before .before .before .before .before .before .before .fault .ensures) (c .before .before .before .before .before .before .before .before .before .if3 .left) (c .child-count .result) le (λ z. c .before .before .if5 .left (c .before .before .before .kind-bit2 .ensures .0 ∙ z)) (c .child-count .ensures) (c .before .before .before .before .push .ensures .places))
 
 pub scan-spec : {M : Type 1} → statement M
 scan-spec =
@@ -144,19 +138,18 @@ scan-spec =
     returns-3
     add-at
     kind-bit-requires
-    sub-push
-    push-requires
-    sub-children
-    children-requires
+    sub-t15
     loop-less
     loop-again
-    child-count-requires
-    cast-m
-    sub-t21
+    sub-push
+    push-requires
+    kind-bit-requires-2
+    sub-children
+    children-requires
     loop-less-2
     loop-again-2
-    sub-push-2
-    push-requires-2
-    sub-t16
+    sub-t14
+    child-count-requires
+    cast-t17
     loop-less-3
     loop-again-3)
