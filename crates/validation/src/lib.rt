@@ -1,13 +1,13 @@
 // Validation: refusals 1 to 6 of a module's words. Reads the words, writes nothing.
 ghost use mathlib.Core.Path.{_≡_};
-ghost use Prim.Native.Nat.{_+_, _-_, _≤_};
-ghost use lib.ListN.{replicate, getD};
-ghost use Rattle.words.specs.Word.{kindOf};
+ghost use mathlib.Core.List.{[], _∷_, _++_};
+ghost use Prim.Native.Nat.{_+_, _-_, _*_, _/_, _%_, _<_, _≤_};
+ghost use Rattle.words.specs.Word.{kindOf, payloadOf};
 ghost use Rattle.grammar.specs.Limits.{maxDepth};
-ghost use Rattle.grammar.specs.Grammar.{slot, Statement, Expression, Class, Element};
-ghost use Rattle.grammar.specs.Scan.{place, belowAt, symbolsOf, refusal};
+ghost use Rattle.grammar.specs.Grammar.{_of_, rowOf, module′, id, expression, body, key, methodParameters, code};
+ghost use Rattle.grammar.specs.Scan.{place, places, symbolsOf, refusal};
 ghost use Rattle.validation.specs.Verdict.{numberOf};
-ghost use Rattle.validation.specs.Walked.{Walked, Here, Apart, Other};
+ghost use Rattle.validation.specs.Walked.{Walked, Apart, Fields, Entry, Room, run, Good, ahead, waiting, Stacked};
 
 pub enum Verdict {
     Accepted,
@@ -21,16 +21,24 @@ pub enum Verdict {
     DecoratedConstructor,
 }
 
-// A walker's answer: the refusal that it met, or 0 and the place behind what it walked.
+// A walk's answer: the refusal that it met, or 0 and the place behind what it walked.
 pub struct Step {
     pub fault: u32,
     pub next: usize,
 }
 
-// The kinds whose children, if any, are expressions only: bit k for the kind k.
-const PLAIN_KINDS: u64 = 1 << 2
-    | 1 << 5
-    | 1 << 6
+// A run of places that wait for records: so many of one category, context and depth, above the stack's entries below `top`. `left` is the number of
+// levels that are left, the places' own counted: it falls from a record to its children.
+pub struct Run {
+    pub category: u8,
+    pub context: u32,
+    pub left: u32,
+    pub count: u64,
+    pub top: usize,
+}
+
+// Sets of kinds, bit k for the kind k: those without children, and those whose children are expressions only.
+const LEAVES: u64 = 1 << 6
     | 1 << 7
     | 1 << 8
     | 1 << 9
@@ -40,6 +48,13 @@ const PLAIN_KINDS: u64 = 1 << 2
     | 1 << 13
     | 1 << 14
     | 1 << 15
+    | 1 << 27
+    | 1 << 34
+    | 1 << 35
+    | 1 << 40;
+
+const PLAIN_KINDS: u64 = 1 << 2
+    | 1 << 5
     | 1 << 16
     | 1 << 17
     | 1 << 18
@@ -48,346 +63,275 @@ const PLAIN_KINDS: u64 = 1 << 2
     | 1 << 23
     | 1 << 24
     | 1 << 25
-    | 1 << 27
-    | 1 << 28
-    | 1 << 34
-    | 1 << 35
-    | 1 << 40;
+    | 1 << 28;
 
-// The walkers. `s` is the number of symbols, `left` the number of levels that are left, the walked records' own counted: it falls from a record to
-// its children. Siblings are walked by a loop, so that the calls nest no deeper than the records.
+// The other runs that wait stand on a stack, the next one on top. A level takes four entries or fewer.
+const ROOM: usize = 256;
 
-// n records of one category. Below the last of them the loop goes on with its children, where they are expressions only.
-fn records(ws: &[u32], at: usize, s: u32, category: u8, context: u32, left: u32, n: u64) -> Step
-    requires { ⌜ left ≤ maxDepth ⌝ }
-    ensures { λ r. ⌜ Walked s (now (ws .entry)) at (replicate n (place (slot category context) (maxDepth + 1 - left))) r ⌝ }
+// An entry of the stack.
+fn entry_of(category: u8, context: u32, left: u32, n: u64) -> u64
+    requires { ⌜ Fields category context n × (left ≤ maxDepth) ⌝ }
+    ensures { λ r. ⌜ Entry category context left n r ⌝ }
 {
-    // Of the k records that are left, from p on: category, context and levels.
-    let mut p = at;
-    let mut c = category;
-    let mut x = context;
-    let mut l = left;
-    let mut k = n;
-    while k != 0 {
-        if ws.len() <= p {
-            return Step { fault: 2, next: p };
-        }
-        let w = ws[p];
-        let f = grammar::fault(s, c, x, l, w);
-        if f != 0 {
-            return Step { fault: f, next: p };
-        }
-        if words::kind_bit(PLAIN_KINDS, w) == 0 {
-            let a = nested(ws, p, s, c, x, l);
-            if a.fault != 0 {
-                return a;
-            }
-            p = a.next;
-            k -= 1;
-            continue;
-        }
-        p += 1;
-        k -= 1;
-        let m = words::child_count(w) as u64;
-        if m == 0 {
-            continue;
-        }
-        if k != 0 {
-            let b = records(ws, p, s, grammar::EXPRESSION, grammar::PLAIN, l - 1, m);
-            if b.fault != 0 {
-                return b;
-            }
-            p = b.next;
-            continue;
-        }
-        c = grammar::EXPRESSION;
-        x = grammar::PLAIN;
-        l -= 1;
-        k = m;
-    }
-    Step { fault: 0, next: p }
+    category as u64 + 16 * (left as u64) + 2048 * (context as u64) + 137438953472 * n
 }
 
-// What stands below a record whose own word has no fault and whose kind is not in PLAIN_KINDS, by its category.
-fn nested(ws: &[u32], at: usize, s: u32, category: u8, context: u32, left: u32) -> Step
-    requires { ⌜ Here s (now ws) at (place (slot category context) (maxDepth + 1 - left)) × (left ≤ maxDepth) × Apart (now ws) at ⌝ }
-    ensures { λ r. ⌜ Walked s (now (ws .entry)) (at + 1) (belowAt (place (slot category context) (maxDepth + 1 - left)) (getD (now (ws .entry)) at 0)) r ⌝ }
+// The run of n places on top. Answers the new top.
+fn push(stack: &mut [u64; ROOM], top: usize, category: u8, context: u32, left: u32, n: u64) -> usize
+    requires { ⌜ Fields category context n × Room (now stack) top × (top < 256) × (top + 4 * left ≤ 256) ⌝ }
+    ensures { λ r. ⌜ Stacked (now (stack .entry)) top (run category context left n) 1 (now (stack .exit)) r ⌝ }
 {
-    if category == grammar::STATEMENT {
-        return statement(ws, at, s, context, left);
+    if n == 0 {
+        return top;
     }
-    if category == grammar::EXPRESSION {
-        return expression(ws, at, s, context, left);
-    }
-    if category == grammar::CLASS {
-        return class(ws, at, s, context, left);
-    }
-    if category == grammar::ELEMENT {
-        return element(ws, at, s, context, left);
-    }
-    other(ws, at, s, category, context, left)
+    stack[top] = entry_of(category, context, left, n);
+    top + 1
 }
 
-// The same of a statement, an expression, a class, an element of a class, any other record.
-fn statement(ws: &[u32], at: usize, s: u32, context: u32, left: u32) -> Step
-    requires { ⌜ Here s (now ws) at (place (slot Statement context) (maxDepth + 1 - left)) × (left ≤ maxDepth) × Apart (now ws) at ⌝ }
-    ensures { λ r. ⌜ Walked s (now (ws .entry)) (at + 1) (belowAt (place (slot Statement context) (maxDepth + 1 - left)) (getD (now (ws .entry)) at 0)) r ⌝ }
+// The children of a class behind its decorators.
+fn push_class(stack: &mut [u64; ROOM], top: usize, left: u32, flags: u32) -> usize
+    requires { ⌜ Room (now stack) top × (top + 3 + 4 * left ≤ 256) ⌝ }
+    ensures { λ r. ⌜ Stacked (now (stack .entry)) top (places (maxDepth + 1 - left) ((flags % 2) of id ∷ (flags / 4 % 2) of expression ∷ 1 of body ∷ [])) 3 (now (stack .exit)) r ⌝ }
 {
-    let w = ws[at];
-    if words::kind_of(w) == 3 {
-        return records(
-            ws,
-            at + 1,
-            s,
-            grammar::STATEMENT,
-            grammar::PLAIN,
-            left - 1,
-            words::payload_of(w) as u64,
-        );
-    }
-    records(
-        ws,
-        at + 1,
-        s,
-        grammar::CLASS,
-        words::payload_of(w),
-        left - 1,
-        1,
-    )
-}
-
-fn expression(ws: &[u32], at: usize, s: u32, context: u32, left: u32) -> Step
-    requires { ⌜ Here s (now ws) at (place (slot Expression context) (maxDepth + 1 - left)) × (left ≤ maxDepth) × Apart (now ws) at ⌝ }
-    ensures { λ r. ⌜ Walked s (now (ws .entry)) (at + 1) (belowAt (place (slot Expression context) (maxDepth + 1 - left)) (getD (now (ws .entry)) at 0)) r ⌝ }
-{
-    if words::kind_of(ws[at]) == 20 {
-        return records(
-            ws,
-            at + 1,
-            s,
-            grammar::CLASS,
-            grammar::CLASS_EXPRESSION,
-            left - 1,
-            1,
-        );
-    }
-    let a = records(
-        ws,
-        at + 1,
-        s,
-        grammar::PARAMETERS,
-        grammar::OF_FUNCTION,
-        left - 1,
-        1,
-    );
-    if a.fault != 0 {
-        return a;
-    }
-    records(ws, a.next, s, grammar::CODE, grammar::PLAIN, left - 1, 1)
-}
-
-fn class(ws: &[u32], at: usize, s: u32, context: u32, left: u32) -> Step
-    requires { ⌜ Here s (now ws) at (place (slot Class context) (maxDepth + 1 - left)) × (left ≤ maxDepth) ⌝ }
-    ensures { λ r. ⌜ Walked s (now (ws .entry)) (at + 1) (belowAt (place (slot Class context) (maxDepth + 1 - left)) (getD (now (ws .entry)) at 0)) r ⌝ }
-{
-    let flags = words::payload_of(ws[at]);
-    let a = records(
-        ws,
-        at + 1,
-        s,
-        grammar::DECORATORS,
+    let a = push(stack, top, grammar::BODY, grammar::PLAIN, left, 1);
+    let b = push(
+        stack,
+        a,
+        grammar::EXPRESSION,
         grammar::PLAIN,
-        left - 1,
-        1,
+        left,
+        (flags / 4 % 2) as u64,
     );
-    if a.fault != 0 {
-        return a;
-    }
-    let b = records(
-        ws,
-        a.next,
-        s,
+    push(
+        stack,
+        b,
         grammar::ID,
         grammar::PLAIN,
-        left - 1,
+        left,
         (flags % 2) as u64,
-    );
-    if b.fault != 0 {
-        return b;
-    }
-    let c = records(
-        ws,
-        b.next,
-        s,
-        grammar::EXPRESSION,
-        grammar::PLAIN,
-        left - 1,
-        (flags / 4 % 2) as u64,
-    );
-    if c.fault != 0 {
-        return c;
-    }
-    records(ws, c.next, s, grammar::BODY, grammar::PLAIN, left - 1, 1)
-}
-
-fn element(ws: &[u32], at: usize, s: u32, context: u32, left: u32) -> Step
-    requires { ⌜ Here s (now ws) at (place (slot Element context) (maxDepth + 1 - left)) × (left ≤ maxDepth) ⌝ }
-    ensures { λ r. ⌜ Walked s (now (ws .entry)) (at + 1) (belowAt (place (slot Element context) (maxDepth + 1 - left)) (getD (now (ws .entry)) at 0)) r ⌝ }
-{
-    let w = ws[at];
-    let kind = words::kind_of(w);
-    if kind == 30 {
-        return method(ws, at, s, context, left);
-    }
-    let payload = words::payload_of(w);
-    if kind == 33 {
-        return records(
-            ws,
-            at + 1,
-            s,
-            grammar::STATEMENT,
-            grammar::PLAIN,
-            left - 1,
-            payload as u64,
-        );
-    }
-    let a = records(
-        ws,
-        at + 1,
-        s,
-        grammar::DECORATORS,
-        grammar::PLAIN,
-        left - 1,
-        1,
-    );
-    if a.fault != 0 {
-        return a;
-    }
-    let b = records(
-        ws,
-        a.next,
-        s,
-        grammar::EXPRESSION,
-        grammar::AS_KEY,
-        left - 1,
-        1,
-    );
-    if b.fault != 0 {
-        return b;
-    }
-    records(
-        ws,
-        b.next,
-        s,
-        grammar::EXPRESSION,
-        grammar::PLAIN,
-        left - 1,
-        (payload / 2 % 2) as u64,
     )
 }
 
-fn method(ws: &[u32], at: usize, s: u32, context: u32, left: u32) -> Step
-    requires { ⌜ Here s (now ws) at (place (slot Element context) (maxDepth + 1 - left)) × (kindOf (getD (now ws) at 0) ≡ 30) × (left ≤ maxDepth) ⌝ }
-    ensures { λ r. ⌜ Walked s (now (ws .entry)) (at + 1) (belowAt (place (slot Element context) (maxDepth + 1 - left)) (getD (now (ws .entry)) at 0)) r ⌝ }
+// The same of a method; of a property or an accessor with n values.
+fn push_method(stack: &mut [u64; ROOM], top: usize, left: u32, flags: u32) -> usize
+    requires { ⌜ Room (now stack) top × (top + 3 + 4 * left ≤ 256) ⌝ }
+    ensures { λ r. ⌜ Stacked (now (stack .entry)) top (places (maxDepth + 1 - left) (1 of key ∷ 1 of methodParameters ∷ (flags / 4 % 2) of code ∷ [])) 3 (now (stack .exit)) r ⌝ }
 {
-    let flags = words::payload_of(ws[at]);
-    let a = records(
-        ws,
-        at + 1,
-        s,
-        grammar::DECORATORS,
-        flags / 2 % 2,
-        left - 1,
-        1,
-    );
-    if a.fault != 0 {
-        return a;
-    }
-    let b = records(
-        ws,
-        a.next,
-        s,
-        grammar::EXPRESSION,
-        grammar::AS_KEY,
-        left - 1,
-        1,
-    );
-    if b.fault != 0 {
-        return b;
-    }
-    let c = records(
-        ws,
-        b.next,
-        s,
-        grammar::PARAMETERS,
-        grammar::PLAIN,
-        left - 1,
-        1,
-    );
-    if c.fault != 0 {
-        return c;
-    }
-    records(
-        ws,
-        c.next,
-        s,
+    let a = push(
+        stack,
+        top,
         grammar::CODE,
         grammar::PLAIN,
-        left - 1,
+        left,
         (flags / 4 % 2) as u64,
-    )
+    );
+    let b = push(stack, a, grammar::PARAMETERS, grammar::PLAIN, left, 1);
+    push(stack, b, grammar::EXPRESSION, grammar::AS_KEY, left, 1)
 }
 
-fn other(ws: &[u32], at: usize, s: u32, category: u8, context: u32, left: u32) -> Step
-    requires { ⌜ Here s (now ws) at (place (slot category context) (maxDepth + 1 - left)) × Other category × (left ≤ maxDepth) × Apart (now ws) at ⌝ }
-    ensures { λ r. ⌜ Walked s (now (ws .entry)) (at + 1) (belowAt (place (slot category context) (maxDepth + 1 - left)) (getD (now (ws .entry)) at 0)) r ⌝ }
+fn push_field(stack: &mut [u64; ROOM], top: usize, left: u32, n: u64) -> usize
+    requires { ⌜ Room (now stack) top × (top + 3 + 4 * left ≤ 256) × (n < 2) ⌝ }
+    ensures { λ r. ⌜ Stacked (now (stack .entry)) top (places (maxDepth + 1 - left) (1 of key ∷ n of expression ∷ [])) 2 (now (stack .exit)) r ⌝ }
 {
-    let n = words::payload_of(ws[at]) as u64;
-    if category == grammar::BODY {
-        return records(ws, at + 1, s, grammar::ELEMENT, grammar::PLAIN, left - 1, n);
-    }
-    if category == grammar::PARAMETERS {
-        return records(ws, at + 1, s, grammar::PARAMETER, context, left - 1, n);
-    }
-    if category == grammar::PARAMETER {
-        let a = records(ws, at + 1, s, grammar::DECORATORS, context, left - 1, 1);
-        if a.fault != 0 {
-            return a;
+    let a = push(stack, top, grammar::EXPRESSION, grammar::PLAIN, left, n);
+    push(stack, a, grammar::EXPRESSION, grammar::AS_KEY, left, 1)
+}
+
+// The children of a record whose kind is in neither set: the first run, the others below it on the stack.
+fn children(stack: &mut [u64; ROOM], top: usize, context: u32, left: u32, w: u32) -> Run
+    requires { ⌜ Apart (kindOf w) × Room (now stack) top × (top + 3 + 4 * left ≤ 256) × (context < 67108864) ⌝ }
+    ensures { λ r. ⌜ (ahead (now (stack .exit)) r ≡ places (maxDepth + 1 - left) (rowOf (kindOf w) .below context (payloadOf w)) ++ waiting (now (stack .entry)) top) × Good (now (stack .exit)) r ⌝ }
+{
+    let p = words::payload_of(w);
+    let n = p as u64;
+    match words::kind_of(w) {
+        1 => {
+            let t = push(stack, top, grammar::STATEMENT, grammar::OWN_LIST, left, n);
+            Run {
+                category: grammar::SYMBOLS,
+                context: grammar::PLAIN,
+                left: left,
+                count: 1,
+                top: t,
+            }
         }
-        return records(
-            ws,
-            a.next,
-            s,
-            grammar::EXPRESSION,
-            grammar::PLAIN,
-            left - 1,
-            n,
+        4 => Run {
+            category: grammar::CLASS,
+            context: p,
+            left: left,
+            count: 1,
+            top: top,
+        },
+        20 => Run {
+            category: grammar::CLASS,
+            context: grammar::CLASS_EXPRESSION,
+            left: left,
+            count: 1,
+            top: top,
+        },
+        21 => {
+            let t = push(stack, top, grammar::CODE, grammar::PLAIN, left, 1);
+            Run {
+                category: grammar::PARAMETERS,
+                context: grammar::OF_FUNCTION,
+                left: left,
+                count: 1,
+                top: t,
+            }
+        }
+        26 => {
+            let t = push_class(stack, top, left, p);
+            Run {
+                category: grammar::DECORATORS,
+                context: grammar::PLAIN,
+                left: left,
+                count: 1,
+                top: t,
+            }
+        }
+        29 => Run {
+            category: grammar::ELEMENT,
+            context: grammar::PLAIN,
+            left: left,
+            count: n,
+            top: top,
+        },
+        30 => {
+            let t = push_method(stack, top, left, p);
+            Run {
+                category: grammar::DECORATORS,
+                context: p / 2 % 2,
+                left: left,
+                count: 1,
+                top: t,
+            }
+        }
+        31 => {
+            let t = push_field(stack, top, left, n / 2 % 2);
+            Run {
+                category: grammar::DECORATORS,
+                context: grammar::PLAIN,
+                left: left,
+                count: 1,
+                top: t,
+            }
+        }
+        32 => {
+            let t = push_field(stack, top, left, 0);
+            Run {
+                category: grammar::DECORATORS,
+                context: grammar::PLAIN,
+                left: left,
+                count: 1,
+                top: t,
+            }
+        }
+        36 => Run {
+            category: grammar::PARAMETER,
+            context: context,
+            left: left,
+            count: n,
+            top: top,
+        },
+        37 => {
+            let t = push(stack, top, grammar::EXPRESSION, grammar::PLAIN, left, n);
+            Run {
+                category: grammar::DECORATORS,
+                context: context,
+                left: left,
+                count: 1,
+                top: t,
+            }
+        }
+        _ => Run {
+            category: grammar::STATEMENT,
+            context: grammar::PLAIN,
+            left: left,
+            count: n,
+            top: top,
+        },
+    }
+}
+
+// The run itself, or the next one of the stack if it has no place; none has a place if that has none.
+fn next(stack: &[u64; ROOM], run: Run) -> Run
+    requires { ⌜ Good (now stack) run ⌝ }
+    ensures { λ r. ⌜ (ahead (now (stack .entry)) r ≡ ahead (now (stack .entry)) run) × Good (now (stack .entry)) r × (r .count ≡ 0 → ahead (now (stack .entry)) run ≡ []) ⌝ }
+{
+    if run.count != 0 {
+        return run;
+    }
+    if run.top == 0 {
+        return run;
+    }
+    let top = run.top - 1;
+    let e = stack[top];
+    Run {
+        category: (e % 16) as u8,
+        context: (e / 2048 % 67108864) as u32,
+        left: (e / 16 % 128) as u32,
+        count: e / 137438953472,
+        top: top,
+    }
+}
+
+// The scan of the words, `s` being the number of symbols: the first fault, or the place behind the module's record.
+fn scan(ws: &[u32], s: u32) -> Step
+    ensures { λ r. ⌜ Walked s (now (ws .entry)) 0 (place module′ 1 ∷ []) r ⌝ }
+{
+    let mut stack = [0u64; ROOM];
+    let mut run = Run {
+        category: grammar::MODULE,
+        context: grammar::PLAIN,
+        left: grammar::MAX_DEPTH,
+        count: 1,
+        top: 0,
+    };
+    let mut at = 0usize;
+    loop {
+        let r = next(&stack, run);
+        if r.count == 0 {
+            return Step { fault: 0, next: at };
+        }
+        if ws.len() <= at {
+            return Step { fault: 2, next: at };
+        }
+        let w = ws[at];
+        let f = grammar::fault(s, r.category, r.context, r.left, w);
+        if f != 0 {
+            return Step { fault: f, next: at };
+        }
+        at += 1;
+        if words::kind_bit(LEAVES, w) != 0 {
+            run = Run {
+                category: r.category,
+                context: r.context,
+                left: r.left,
+                count: r.count - 1,
+                top: r.top,
+            };
+            continue;
+        }
+        let t = push(
+            &mut stack,
+            r.top,
+            r.category,
+            r.context,
+            r.left,
+            r.count - 1,
         );
+        if words::kind_bit(PLAIN_KINDS, w) == 0 {
+            run = children(&mut stack, t, r.context, r.left - 1, w);
+            continue;
+        }
+        run = Run {
+            category: grammar::EXPRESSION,
+            context: grammar::PLAIN,
+            left: r.left - 1,
+            count: words::child_count(w) as u64,
+            top: t,
+        };
     }
-    if category == grammar::CODE {
-        return records(
-            ws,
-            at + 1,
-            s,
-            grammar::STATEMENT,
-            grammar::PLAIN,
-            left - 1,
-            n,
-        );
-    }
-    let a = records(ws, at + 1, s, grammar::SYMBOLS, grammar::PLAIN, left - 1, 1);
-    if a.fault != 0 {
-        return a;
-    }
-    records(
-        ws,
-        a.next,
-        s,
-        grammar::STATEMENT,
-        grammar::OWN_LIST,
-        left - 1,
-        n,
-    )
 }
 
 // The number of symbols that the second word says.
@@ -427,15 +371,7 @@ pub fn validate(ws: &[u32]) -> Verdict
         return Verdict::BadLength;
     }
     let s = symbol_count(ws);
-    let r = records(
-        ws,
-        0,
-        s,
-        grammar::MODULE,
-        grammar::PLAIN,
-        grammar::MAX_DEPTH,
-        1,
-    );
+    let r = scan(ws, s);
     let f = r.fault;
     if f != 0 {
         return verdict_of(f);
