@@ -1,7 +1,7 @@
 -- What the functions promise: the scan of the places that wait comes to their answer, whatever waits behind. Definitions only.
 use mathlib.Core.Path.{_≡_}
 use mathlib.Core.Bool.{cond}
-use mathlib.Core.List.{List, [], _∷_, _++_}
+use mathlib.Core.List.{List, [], _++_}
 use Prim.Native.Nat.{ℕ, zero, suc, _+_, _-_, _*_, _/_, _%_, _<_, _≤_}
 use lib.ListN.{length, replicate, drop, getD}
 use lib.Dec.{eqb}

@@ -1,8 +1,7 @@
 -- One law for each way through the scan. Assumes nothing.
 use mathlib.Core.Path.{_≡_, refl, sym, ap, subst, _∙_}
 use mathlib.Core.Bool.{Bool, true, false, cond}
-use mathlib.Core.List.{List, [], _∷_, _++_, append-nil, append-assoc}
-use mathlib.Core.Logic.{_⊎_, inl, inr, ⊎-elim}
+use mathlib.Core.List.{List, [], _∷_, _++_, append-assoc}
 use Prim.Native.Nat.{ℕ, zero, suc, _+_, _-_, _*_, _/_, _%_, _<_, _≤_}
 use native.Mathlib.Numerals.{add-one}
 use native.Mathlib.Omega.{arith}
@@ -10,23 +9,19 @@ use lib.ListN.{length, replicate, drop, getD, set, length-set, drop-of-length-le
 use lib.Seq.{drop-cons, getD-set-same, getD-set-other}
 use lib.Dec.{eqb, T, eqb→eq}
 use borrow.Author.Tests.{eqb-true, eq-eqb, ne-eqb}
-use Rattle.words.specs.Table.{lookup, lookup-miss}
+use Rattle.words.specs.Table.{lookup}
 use Rattle.words.specs.Shape.{bitOf}
-use Rattle.words.specs.Word.{kindOf, payloadOf, bit0, bit1, bit2, children}
+use Rattle.words.specs.Word.{kindOf, payloadOf, children}
 use Rattle.grammar.specs.Limits.{maxDepth}
 use Rattle.grammar.specs.Grammar.{slot, Run, Row, row, noRow, leaf, expressions, oneExpression, statements, table, rowOf, expression, Statement}
 use Rattle.grammar.specs.Scan.{Place, place, places, below, belowAt, faultAt, judge}
-use Rattle.grammar.specs.Rows.{each, each-row, implied, test-left, test-right, allowed-row, allowed-known, total, total-below}
+use Rattle.grammar.specs.Rows.{each, each-row, implied, test-left, test-right, allowed-known, total, total-below}
 use Rattle.grammar.specs.Faults.{Faultless, fault-0}
 use Rattle.validation.specs.declared.Step.{Step}
 use Rattle.validation.specs.declared.Run as Declared
 use Rattle.validation.specs.Walked.{ahead, Good, after, Walked, Rest, Here, leaves, plain, Apart, run, Fields, Entry, waiting, Room, Stacked}
 
 -- ---- the stack
-
-pub entry-fields : (c x left n : ℕ) → Fields c x n → left ≤ maxDepth → Entry c x left n (c + 16 * left + 2048 * x + 137438953472 * n)
-entry-fields c x left n f h =
-    record { category = omega (arith, f .category, f .context, f .count); left = omega (arith, f .category, f .context, f .count); context = omega (arith, f .category, f .context, f .count); count = omega (arith, f .category, f .context, f .count) }
 
 waiting-set : (es : List ℕ) (d e n : ℕ) → n ≤ d → waiting (set es d e) n ≡ waiting es n
 unfolding waiting

@@ -2,13 +2,12 @@
 use Rattle.validation.specs.Walked.{run}
 use Rattle.validation.specs.Walks.{stacked-nothing, stacked-then, opened, row-of, row-other, named-none}
 use Rattle.grammar.specs.Scan.{places}
-use Rattle.grammar.specs.Grammar.{row, table, rowOf, statements}
+use Rattle.grammar.specs.Grammar.{row, table, rowOf}
 use Rattle.words.specs.Word.{payload-lt, bit0, bit1, bit2}
 use Rattle.words.specs.Table.{lookup}
 use Prim.Native.Nat.{_/_, _%_}
 use native.Mathlib.Omega.{arith}
-use mathlib.Core.List.{[], _∷_, _++_}
-use mathlib.Core.Path.{sym, _∙_}
+use mathlib.Core.List.{[]}
 use borrow.Author.Needs.{needs}
 use Rattle.validation.proofs.children.Statement.{statement}
 use Rattle.validation.proofs.children.Tie as tie
