@@ -1,6 +1,6 @@
 -- The note of a record from those of the records behind it, and the loop that fills them in from the last place to the first. Assumes nothing.
 use mathlib.Core.Path.{_≡_, refl, ap, sym, subst, _∙_}
-use mathlib.Core.Bool.{Bool, true, false, _&&_, cond, true≢false, or-false}
+use mathlib.Core.Bool.{Bool, true, false, _&&_, true≢false, or-false}
 use mathlib.Core.Logic.{_⊎_, inl, inr}
 use mathlib.Core.Option.{Option, none, some}
 use mathlib.Core.List.{List}
@@ -15,7 +15,7 @@ use Rattle.words.specs.Table.{lookup}
 use Rattle.words.specs.Word.{children, childTable}
 use Rattle.records.specs.Label.{is, arity}
 use Rattle.records.specs.Ends.{ends-set}
-use Rattle.records.specs.Place.{recordsAt, labelAt, arityAt, kidsAt, endOf, end-one, end-low, end-high}
+use Rattle.records.specs.Place.{recordsAt, labelAt, arityAt, kidsAt, endOf, end-one, end-high}
 use Rattle.rewriting.specs.Parts.{anyRecord, idOf, isDecorated, isDecoratedMember, isLive}
 use Rattle.inspect.specs.Inside.{none-records}
 use Rattle.inspect.specs.Class.{member-other}

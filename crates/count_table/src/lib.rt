@@ -6,9 +6,6 @@ ghost use mathlib.Core.Path.{_≡_};
 ghost use mathlib.Core.Bool.{true, false};
 ghost use Prim.Native.Nat.{_+_, _*_, _/_, _%_, _<_, _≤_};
 ghost use lib.ListN.{length, getD};
-ghost use Rattle.records.specs.Forest.{takeF};
-ghost use Rattle.records.specs.Place.{recordsAt, labelAt};
-ghost use Rattle.rewriting.specs.Parts.{isLive};
 ghost use Rattle.counter.specs.Contract.{markIn, Planned, Ready, Noted, Annotated};
 ghost use Rattle.count_table.specs.Note.{Behind, Leads, isLiveClass, Clear};
 

@@ -5,13 +5,13 @@ ghost use mathlib.Core.Path.{_≡_};
 ghost use mathlib.Core.Bool.{_&&_, _||_};
 ghost use mathlib.Core.List.{[], _∷_};
 ghost use Prim.Native.Nat.{_+_, _/_, _<_};
-ghost use lib.ListN.{length, getD};
+ghost use lib.ListN.{length};
 ghost use Rattle.records.specs.Label.{is};
 ghost use Rattle.records.specs.Ends.{Ends};
 ghost use Rattle.records.specs.Place.{recordsAt, labelAt, kidsAt};
 ghost use Rattle.grammar.specs.Grammar.{module′};
 ghost use Rattle.grammar.specs.WellFormed.{Fits};
-ghost use Rattle.rewriting.specs.Parts.{anyRecord, isDecorated, isRefused7};
+ghost use Rattle.rewriting.specs.Parts.{anyRecord, isRefused7};
 ghost use Rattle.counter.specs.Contract.{markIn, Planned};
 ghost use Rattle.mark_table.specs.Marks.{takesAlias, isMarked, ClassMark, NoTest};
 

@@ -11,7 +11,7 @@ use Rattle.output.specs.Overlay.{Wrote, wrote-none, wrote-then}
 use Rattle.class_stack.specs.Renaming.{Ready as StackReady}
 use Rattle.class_stack.specs.declared.ClassStack.{ClassStack}
 use Rattle.walk_laws.specs.Written.{written}
-use Rattle.walk_laws.specs.Still.{changes, wordsFrom, written-row, from-first, from-none, still-here, still-after}
+use Rattle.walk_laws.specs.Still.{wordsFrom, written-row, from-first, from-none, still-here, still-after}
 use Rattle.counter.specs.Contract.{aroundOf, stillIn, Noted}
 use Rattle.counter.specs.declared.Scope.{Scope}
 use Rattle.counter.specs.declared.Count.{Count}

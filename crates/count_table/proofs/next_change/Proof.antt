@@ -1,7 +1,7 @@
 -- `next_change`: the place itself, or what was found behind it.
 use Rattle.count_table.specs.Note.{clear-here, clear-next, unmarked}
 use borrow.Author.Tests.{ne-eqb}
-use mathlib.Core.Path.{sym, _∙_}
+use mathlib.Core.Path.{_∙_}
 use borrow.Author.Needs.{needs}
 use Rattle.count_table.proofs.next_change.Statement.{statement}
 use Rattle.count_table.proofs.next_change.Tie as tie

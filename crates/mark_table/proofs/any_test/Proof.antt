@@ -1,6 +1,6 @@
 -- `any_test`: a test here, or the places behind.
 use Rattle.mark_table.specs.Marks.{test-here, test-next}
-use mathlib.Core.Path.{sym, _∙_}
+use mathlib.Core.Path.{_∙_}
 use borrow.Author.Needs.{needs}
 use Rattle.mark_table.proofs.any_test.Statement.{statement}
 use Rattle.mark_table.proofs.any_test.Tie as tie

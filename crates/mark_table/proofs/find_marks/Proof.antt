@@ -3,8 +3,7 @@ use Rattle.mark_table.specs.Marks.{Done, done-start, done-down, done-cla
 use borrow.Author.Needs.{needs}
 use lib.ListN.{length}
 use native.Mathlib.Omega.{arith}
-use Prim.Native.Nat.{ℕ}
-use mathlib.Core.Path.{_∙_, sym, subst}
+use mathlib.Core.Path.{_∙_}
 use Rattle.mark_table.proofs.find_marks.Statement.{statement}
 use Rattle.mark_table.proofs.find_marks.Tie as tie
 
