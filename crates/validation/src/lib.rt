@@ -150,7 +150,7 @@ fn children(stack: &mut [u64; ROOM], top: usize, context: u32, left: u32, w: u32
             Run {
                 category: grammar::SYMBOLS,
                 context: grammar::PLAIN,
-                left: left,
+                left,
                 count: 1,
                 top: t,
             }
@@ -158,23 +158,23 @@ fn children(stack: &mut [u64; ROOM], top: usize, context: u32, left: u32, w: u32
         4 => Run {
             category: grammar::CLASS,
             context: p,
-            left: left,
+            left,
             count: 1,
-            top: top,
+            top,
         },
         20 => Run {
             category: grammar::CLASS,
             context: grammar::CLASS_EXPRESSION,
-            left: left,
+            left,
             count: 1,
-            top: top,
+            top,
         },
         21 => {
             let t = push(stack, top, grammar::CODE, grammar::PLAIN, left, 1);
             Run {
                 category: grammar::PARAMETERS,
                 context: grammar::OF_FUNCTION,
-                left: left,
+                left,
                 count: 1,
                 top: t,
             }
@@ -184,7 +184,7 @@ fn children(stack: &mut [u64; ROOM], top: usize, context: u32, left: u32, w: u32
             Run {
                 category: grammar::DECORATORS,
                 context: grammar::PLAIN,
-                left: left,
+                left,
                 count: 1,
                 top: t,
             }
@@ -192,16 +192,16 @@ fn children(stack: &mut [u64; ROOM], top: usize, context: u32, left: u32, w: u32
         29 => Run {
             category: grammar::ELEMENT,
             context: grammar::PLAIN,
-            left: left,
+            left,
             count: n,
-            top: top,
+            top,
         },
         30 => {
             let t = push_method(stack, top, left, p);
             Run {
                 category: grammar::DECORATORS,
                 context: p / 2 % 2,
-                left: left,
+                left,
                 count: 1,
                 top: t,
             }
@@ -211,7 +211,7 @@ fn children(stack: &mut [u64; ROOM], top: usize, context: u32, left: u32, w: u32
             Run {
                 category: grammar::DECORATORS,
                 context: grammar::PLAIN,
-                left: left,
+                left,
                 count: 1,
                 top: t,
             }
@@ -221,24 +221,24 @@ fn children(stack: &mut [u64; ROOM], top: usize, context: u32, left: u32, w: u32
             Run {
                 category: grammar::DECORATORS,
                 context: grammar::PLAIN,
-                left: left,
+                left,
                 count: 1,
                 top: t,
             }
         }
         36 => Run {
             category: grammar::PARAMETER,
-            context: context,
-            left: left,
+            context,
+            left,
             count: n,
-            top: top,
+            top,
         },
         37 => {
             let t = push(stack, top, grammar::EXPRESSION, grammar::PLAIN, left, n);
             Run {
                 category: grammar::DECORATORS,
-                context: context,
-                left: left,
+                context,
+                left,
                 count: 1,
                 top: t,
             }
@@ -246,9 +246,9 @@ fn children(stack: &mut [u64; ROOM], top: usize, context: u32, left: u32, w: u32
         _ => Run {
             category: grammar::STATEMENT,
             context: grammar::PLAIN,
-            left: left,
+            left,
             count: n,
-            top: top,
+            top,
         },
     }
 }
@@ -271,7 +271,7 @@ fn next(stack: &[u64; ROOM], run: Run) -> Run
         context: (e / 2048 % 67108864) as u32,
         left: (e / 16 % 128) as u32,
         count: e / 137438953472,
-        top: top,
+        top,
     }
 }
 
