@@ -15,12 +15,19 @@ fn main() {
     let mut args = std::env::args().skip(1);
     match (args.next().as_deref(), args.next()) {
         (None, None) => table(),
-        (Some("shapes"), None) => all_shapes(),
-        _ => {
-            eprintln!("bench         the table\nbench shapes  the worst nesting: every shape of classes in one another");
-            std::process::exit(2);
-        }
+        (Some("shapes"), words) => match words.as_deref().unwrap_or("4096").parse() {
+            Ok(n) if (16..=MOST_WORDS).contains(&n) => all_shapes(n),
+            _ => usage(),
+        },
+        _ => usage(),
     }
+}
+
+fn usage() {
+    eprintln!(
+        "bench               the table\nbench shapes [N]    every shape of classes in one another, at N words, 16 to {MOST_WORDS} (the most if not said)"
+    );
+    std::process::exit(2);
 }
 
 /// The modules that one measurement runs through, and the call that it makes.
@@ -47,7 +54,7 @@ impl Input {
 }
 
 fn table() {
-    let worst = slowest_first().swap_remove(0).shape;
+    let worst = slowest_first(MOST_WORDS).swap_remove(0).shape;
     println!("worst nesting: {}\n", worst.name());
     let mut inputs = Vec::new();
     for n in SIZES {
@@ -300,18 +307,18 @@ impl Shape {
     }
 }
 
-/// What one shape takes at 4,096 words.
+/// What one shape takes.
 struct Measured {
     shape: Shape,
     ours: f64,
     rust: f64,
 }
 
-/// Every shape, the slowest for the proved rewriter first.
-fn slowest_first() -> Vec<Measured> {
+/// Every shape at n words, the slowest for the proved rewriter first.
+fn slowest_first(n: usize) -> Vec<Measured> {
     let mut all: Vec<Measured> = shapes()
         .map(|shape| {
-            let [ours, rust, _] = measured(&Input::one("", &shape.module(MOST_WORDS)), 8);
+            let [ours, rust, _] = measured(&Input::one("", &shape.module(n)), if n < 1024 { 20 } else { 8 });
             Measured { shape, ours, rust }
         })
         .collect();
@@ -319,9 +326,14 @@ fn slowest_first() -> Vec<Measured> {
     all
 }
 
-fn all_shapes() {
-    println!("shapes at {MOST_WORDS} words: proved, ns; proved, ns a word; proved : Rust");
-    for m in slowest_first() {
-        println!("{:>12.0} {:>8.1} {:>7.2}  {}", m.ours, m.ours / MOST_WORDS as f64, m.ours / m.rust, m.shape.name());
+/// Every shape at n words, those that take most of the plain Rust's time first.
+fn all_shapes(n: usize) {
+    let mut all = slowest_first(n);
+    all.sort_by(|a, b| (b.ours / b.rust).total_cmp(&(a.ours / a.rust)));
+    let slower = all.iter().filter(|m| m.ours > m.rust).count();
+    println!("{slower} of {} shapes at {n} words take more time than the plain Rust", all.len());
+    println!("proved : Rust; proved, ns; proved, ns a word");
+    for m in all {
+        println!("{:>7.2} {:>12.0} {:>8.1}  {}", m.ours / m.rust, m.ours, m.ours / n as f64, m.shape.name());
     }
 }
