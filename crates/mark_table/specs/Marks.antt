@@ -4,13 +4,14 @@ use mathlib.Core.Path.{_≡_, refl, ap, sym, subst, _∙_}
 use mathlib.Core.Bool.{Bool, true, false, _&&_, _||_, and-false, or-false, true≢false}
 use mathlib.Core.Option.{Option, none, some}
 use mathlib.Core.List.{List, [], _∷_, _++_}
-use Prim.Native.Nat.{ℕ, _+_, _-_, _/_, _<_, _≤_}
+use Prim.Native.Nat.{ℕ, _+_, _-_, _/_, _%_, _<_, _≤_}
 use native.Mathlib.Omega.{arith}
 use lib.Dec.{eqb, ltb}
 use lib.ListN.{length, getD, set, length-set, replicate}
 use lib.Seq.{getD-set-same, getD-set-other}
 use borrow.Author.Tests.{eqb-true, eqb-false, eq-eqb, ne-eqb, ltb-true, ltb-false}
 use Rattle.words.specs.Table.{lookup}
+use Rattle.words.specs.Shape.{bitOf}
 use Rattle.records.specs.Forest.{end, node, takeF, anyF}
 use Rattle.records.specs.Label.{Label, Trees, is}
 use Rattle.records.specs.Ends.{Ends, ends-set}
@@ -19,9 +20,11 @@ use Rattle.grammar.specs.Grammar.{module′, symbols, ownStatement, slotsBelow,
 use Rattle.grammar.specs.WellFormed.{Allowed, Fits}
 use Rattle.grammar.specs.Children.{allowed-sole}
 use Rattle.grammar.specs.Rows.{soleKind}
-use Rattle.rewriting.specs.Parts.{elementsOf, idOf, isDecorated, isDecoratedMember, isLive}
+use Rattle.rewriting.specs.Parts.{anyRecord, elementsOf, idOf, isDecorated, isDecoratedMember, isLive, isRefused7}
 use Rattle.rewriting.specs.Visit.{Result, isRef, visit}
 use Rattle.inspect.specs.Row.{anyRow}
+use Rattle.inspect.specs.Inside.{record-open, record-past}
+use Rattle.inspect.specs.Refused.{refused-other}
 use Rattle.inspect.specs.Class.{member-other}
 use Rattle.walk_laws.specs.Rows.{visitAt, fresh, kids-visit}
 use Rattle.walk_laws.specs.After.{mentioned}
@@ -55,6 +58,17 @@ isMarked ws at =
 -- the mark of a class that stands at i is right
 unfoldable pub ClassMark : List ℕ → List ℕ → ℕ → Type 0
 ClassMark ws notes i = i < length ws → labelAt ws i .kind ≡ 26 → markIn (getD notes i 0) ≡ isDecorated (kidsAt ws i)
+
+-- a kind that neither a mark nor refusal 7 asks for
+pub record PassedOver (k : ℕ) : Type 0 where
+  pub statement : k ≡ 4 → ⊥
+  pub test : k ≡ 19 → ⊥
+  pub class : k ≡ 26 → ⊥
+  pub body : k ≡ 29 → ⊥
+  pub method : k ≡ 30 → ⊥
+  pub property : k ≡ 31 → ⊥
+  pub accessor : k ≡ 32 → ⊥
+  pub symbols : k ≡ 40 → ⊥
 
 -- no private-in test stands at i or behind it, unless b
 unfoldable pub NoTest : List ℕ → ℕ → Bool → Type 0
@@ -116,6 +130,14 @@ module _ (ws : List ℕ) (at : ℕ) where
   unfolding mentionsId
   searched-id c e = rw e
 
+-- ---- the mark of a note
+
+pub mark-even : (w : ℕ) → w % 2 ≡ 0 → markIn w ≡ false
+mark-even w e = ne-eqb (w % 2) 1 λ g. omega (arith, e, g)
+
+pub mark-odd : (w : ℕ) → (w % 2 ≡ 0 → ⊥) → markIn w ≡ true
+mark-odd w n = eq-eqb (w % 2) 1 (omega (arith, n))
+
 -- ---- what a mark says, by the kind
 
 module _ (ws : List ℕ) (at : ℕ) where
@@ -152,6 +174,26 @@ module _ (ws : List ℕ) (at : ℕ) where
       let none : isMarked ws at ≡ false = marked-member (λ g. omega (arith, e, g)) (λ g. omega (arith, e, g)) (λ g. omega (arith, e, g)) ∙ none-member 40 e (λ g. omega arith) (λ g. omega arith) (λ g. omega arith) in
       rw (none, eq-eqb (labelAt ws at .kind) 40 e)
 
+-- the kinds asked for, as a set
+abbrev pub asked : ℕ
+asked = 1107632324624
+
+pub passed-over : (k : ℕ) → bitOf asked k ≡ 0 → PassedOver k
+unfolding bitOf
+passed-over k z = record {
+  statement = other 4 refl;
+  test = other 19 refl;
+  class = other 26 refl;
+  body = other 29 refl;
+  method = other 30 refl;
+  property = other 31 refl;
+  accessor = other 32 refl;
+  symbols = other 40 refl;
+}
+  where
+    other : (n : ℕ) → bitOf asked n ≡ 1 → k ≡ n → ⊥
+    other n o e = let y : _≡_ {A = ℕ} 0 1 = sym z ∙ ap (bitOf asked) e ∙ o in omega arith
+
 -- ---- private-in tests
 
 module _ (ws : List ℕ) (i : ℕ) where
@@ -173,16 +215,17 @@ module _ (ws : List ℕ) (i : ℕ) where
 
 -- ---- the loop over the places, from the last to the first
 
--- the entries of the places from i on, in a table of m entries
-pub record Done (ws notes : List ℕ) (m i : ℕ) (test : Bool) : Type 0 where
+-- the entries of the places from i on, in a table of m entries; refused: whether a record there is one of refusal 7
+pub record Done (ws notes : List ℕ) (m i : ℕ) (test refused : Bool) : Type 0 where
   pub long : length notes ≡ m
   pub low : i ≤ length ws
   pub ends : Ends ws notes 0
   pub right : (j : ℕ) → i ≤ j → j < length ws → (labelAt ws j .kind ≡ 40 → ⊥) → markIn (getD notes j 0) ≡ isMarked ws j
   pub tests : (j : ℕ) → i ≤ j → j < length ws → labelAt ws j .kind ≡ 40 → NoTest ws j (markIn (getD notes j 0))
   pub seen : NoTest ws i test
+  pub seven : refused ≡ anyRecord isRefused7 (recordsAt ws i)
 
-pub done-start : {ws notes : List ℕ} → Ends ws notes 0 → Done ws notes (length notes) (length ws) false
+pub done-start : {ws notes : List ℕ} → Ends ws notes 0 → Done ws notes (length notes) (length ws) false false
 done-start {ws} e = record {
   long = refl;
   low = omega arith;
@@ -190,25 +233,27 @@ done-start {ws} e = record {
   right = λ j l h. absurd (omega (arith, l, h));
   tests = λ j l h. absurd (omega (arith, l, h));
   seen = test-none ws 0;
+  seven = sym (record-past isRefused7 ws (length ws) (omega arith));
 }
 
 -- one place back
-pub done-down : {ws notes : List ℕ} {m i : ℕ} {test : Bool} → Done ws notes m i test → (i ≡ 0 → ⊥) → Done ws notes m (i - 1 + 1) test
-done-down {ws} {notes} {m} {i} {test} d h = let e : i ≡ i - 1 + 1 = omega (arith, h) in subst (λ (j : ℕ). Done ws notes m j test) e d
+pub done-down : {ws notes : List ℕ} {m i : ℕ} {test refused : Bool} → Done ws notes m i test refused → (i ≡ 0 → ⊥) → Done ws notes m (i - 1 + 1) test refused
+done-down {ws} {notes} {m} {i} {test} {refused} d h = let e : i ≡ i - 1 + 1 = omega (arith, h) in subst (λ (j : ℕ). Done ws notes m j test refused) e d
 
-pub done-class : {ws notes : List ℕ} {m i : ℕ} {test : Bool} → Done ws notes m i test → ClassMark ws notes i
+pub done-class : {ws notes : List ℕ} {m i : ℕ} {test refused : Bool} → Done ws notes m i test refused → ClassMark ws notes i
 unfolding ClassMark
 done-class {ws} {notes} {m} {i} d h kind = d .right i (omega arith) h (λ g. omega (arith, kind, g)) ∙ marked-class ws i kind
 
-pub done-next : {ws notes : List ℕ} {m i : ℕ} {test : Bool} (v : ℕ) (b : Bool) → Done ws notes m (i + 1) test → NoTest ws i b → v / 65536 ≡ getD notes i 0 / 65536 →
-    markIn v ≡ (isMarked ws i || (is 40 (labelAt ws i) && b)) → Done ws (set notes i v) m i b
-done-next {ws} {notes} {m} {i} v b d t p e = record {
+pub done-next : {ws notes : List ℕ} {m i : ℕ} {test refused : Bool} (v : ℕ) (b r : Bool) → Done ws notes m (i + 1) test refused → NoTest ws i b →
+    r ≡ anyRecord isRefused7 (recordsAt ws i) → v / 65536 ≡ getD notes i 0 / 65536 → markIn v ≡ (isMarked ws i || (is 40 (labelAt ws i) && b)) → Done ws (set notes i v) m i b r
+done-next {ws} {notes} {m} {i} v b r d t n p e = record {
   long = length-set notes i v ∙ d .long;
   low = omega (arith, d .low);
   ends = ends-set v (d .ends) λ l. p ∙ d .ends .right i (omega arith) l;
   right = λ j l w n. go j l w n (eqb j i) refl;
   tests = λ j l w k. forty j l w k (eqb j i) refl;
   seen = t;
+  seven = n;
 }
   where
     h : i < length notes
@@ -231,6 +276,17 @@ done-next {ws} {notes} {m} {i} v b d t p e = record {
     forty j l w k false s =
         let other : j ≡ i → ⊥ = eqb-false j i s in
         subst (λ (x : ℕ). NoTest ws j (markIn x)) (sym (getD-set-other notes i j v 0 other)) (d .tests j (omega (arith, l, other)) w k)
+
+-- a record of a kind that is passed over
+pub done-over : {ws notes : List ℕ} {m i : ℕ} {test refused : Bool} (v : ℕ) → Done ws notes m (i + 1) test refused → PassedOver (labelAt ws i .kind) →
+    v / 65536 ≡ getD notes i 0 / 65536 → markIn v ≡ false → Done ws (set notes i v) m i test refused
+done-over {ws} {notes} {m} {i} {test} {refused} v d o p e =
+    let none : isMarked ws i ≡ false = marked-member ws i (o .statement) (o .class) (o .body) ∙ member-other (labelAt ws i) (kidsAt ws i) (o .method) (o .property) (o .accessor) in
+    let h : i < length ws = omega (arith, d .low) in
+    done-next v test refused d (test-next ws i test (d .seen) (o .test)) (d .seven ∙ sym (seven-next i h (refused-other ws i (o .statement)))) p (e ∙ sym (marked-other ws i test (o .symbols) ∙ none))
+  where
+    seven-next : (j : ℕ) → j < length ws → isRefused7 (labelAt ws j) (kidsAt ws j) ≡ false → anyRecord isRefused7 (recordsAt ws j) ≡ anyRecord isRefused7 (recordsAt ws (j + 1))
+    seven-next j h f = record-open isRefused7 ws j h ∙ rw f
 
 -- ---- the module's word and its 40
 
@@ -269,9 +325,12 @@ module _ (ws : List ℕ) (whole : Fits (module′ ∷ []) (recordsAt ws 0)) wher
       let f = row-first ws 1 _ symbols _ (r .1) in
       (f .0, allowed-sole symbols (labelAt ws 1) (f .1) tt)
 
-pub done-planned : {ws notes : List ℕ} {m i : ℕ} {test : Bool} → Fits (module′ ∷ []) (recordsAt ws 0) → i ≡ 0 → Done ws notes m i test → Planned ws notes
+pub done-seven : {ws notes : List ℕ} {m i : ℕ} {test refused : Bool} → i ≡ 0 → Done ws notes m i test refused → refused ≡ anyRecord isRefused7 (recordsAt ws 0)
+done-seven {ws} z d = d .seven ∙ ap (λ (j : ℕ). anyRecord isRefused7 (recordsAt ws j)) z
+
+pub done-planned : {ws notes : List ℕ} {m i : ℕ} {test refused : Bool} → Fits (module′ ∷ []) (recordsAt ws 0) → i ≡ 0 → Done ws notes m i test refused → Planned ws notes
 unfolding NoTest
-done-planned {ws} {notes} {m} {i} {test} whole z d = record {
+done-planned {ws} {notes} {m} {i} {test} {refused} whole z d = record {
   ends = d .ends;
   right = λ at n h kind live decorated below.
       d .right at (omega (arith, z)) h (λ g. omega (arith, kind, g)) ∙ marked-statement ws at kind ∙ searched ws at kind live decorated ∙

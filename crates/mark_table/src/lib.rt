@@ -1,11 +1,12 @@
 // The notes' marks: which classes take an alias or are decorated (rule 6), which members are decorated (rule 3), whether there are private-in tests
-// (rule 9); a flat loop over the places of an accepted module's words, from the last to the first. And refusal 7, by the marks.
+// (rule 9); a flat loop over the places of an accepted module's words, from the last to the first. And refusal 7, in the same loop.
 use inspect::NONE;
 ghost use mathlib.Core.Path.{_≡_};
-ghost use mathlib.Core.Bool.{_&&_, _||_};
+ghost use mathlib.Core.Bool.{true, _&&_, _||_};
 ghost use mathlib.Core.List.{[], _∷_};
 ghost use Prim.Native.Nat.{_+_, _/_, _<_};
 ghost use lib.ListN.{length};
+ghost use Rattle.words.specs.Word.{kindOf};
 ghost use Rattle.records.specs.Label.{is};
 ghost use Rattle.records.specs.Ends.{Ends};
 ghost use Rattle.records.specs.Place.{recordsAt, labelAt, kidsAt};
@@ -13,20 +14,37 @@ ghost use Rattle.grammar.specs.Grammar.{module′};
 ghost use Rattle.grammar.specs.WellFormed.{Fits};
 ghost use Rattle.rewriting.specs.Parts.{anyRecord, isRefused7};
 ghost use Rattle.counter.specs.Contract.{markIn, Planned};
-ghost use Rattle.mark_table.specs.Marks.{takesAlias, isMarked, ClassMark, NoTest};
+ghost use Rattle.mark_table.specs.Marks.{takesAlias, isMarked, ClassMark, NoTest, PassedOver};
 
-// Notes in the lowest bit of each place the mark of the record there; the ends as they were.
-pub fn find_marks(ws: &[u32], notes: &mut [u32])
+// The kinds that a mark or refusal 7 asks for: bit k for the kind k.
+const ASKED: u64 = 1 << 4 | 1 << 19 | 1 << 26 | 1 << 29 | 1 << 30 | 1 << 31 | 1 << 32 | 1 << 40;
+
+// Notes in the lowest bit of each place the mark of the record there; the ends as they were. Is any record one of refusal 7?
+pub fn find_marks(ws: &[u32], notes: &mut [u32]) -> bool
     requires { ⌜ Ends (now ws) (now notes) 0 × Fits (module′ ∷ []) (recordsAt (now ws) 0) ⌝ }
-    ensures { λ r. ⌜ Planned (now (ws .entry)) (now (notes .exit)) × (length (now (notes .exit)) ≡ length (now (notes .entry))) ⌝ }
+    ensures { λ r. ⌜ (r ≡ anyRecord isRefused7 (recordsAt (now (ws .entry)) 0)) × Planned (now (ws .entry)) (now (notes .exit)) × (length (now (notes .exit)) ≡ length (now (notes .entry))) ⌝ }
 {
     let mut i = ws.len();
     let mut test = false;
+    let mut refused = false;
     while i != 0 {
         i -= 1;
+        if is_passed_over(ws[i]) {
+            notes[i] = with_mark(notes[i], false);
+            continue;
+        }
         test = any_test(ws, i, test);
+        refused = any_refused_7(ws, notes, i, refused);
         notes[i] = with_mark(notes[i], is_marked(ws, notes, i, test));
     }
+    refused
+}
+
+// Is the word's kind none of those asked for?
+fn is_passed_over(w: u32) -> bool
+    ensures { λ r. ⌜ (r ≡ true → PassedOver (kindOf w)) ⌝ }
+{
+    words::kind_bit(ASKED, w) == 0
 }
 
 // Is there a private-in test at i or behind it, where `test` says whether one stands behind it?
@@ -89,34 +107,31 @@ fn takes_alias(ws: &[u32], notes: &[u32], i: usize) -> bool
 
 // ---- refusal 7
 
-// Of any record of the words.
-pub fn refused_7(ws: &[u32], notes: &[u32]) -> bool
-    requires { ⌜ Planned (now ws) (now notes) × Fits (module′ ∷ []) (recordsAt (now ws) 0) ⌝ }
-    ensures { λ r. ⌜ r ≡ anyRecord isRefused7 (recordsAt (now (ws .entry)) 0) ⌝ }
+// Of the record at i or of one behind it, where `refused` says whether it is one behind it.
+fn any_refused_7(ws: &[u32], notes: &[u32], i: usize, refused: bool) -> bool
+    requires { ⌜ (i < length (now ws)) × Ends (now ws) (now notes) 0 × Fits (module′ ∷ []) (recordsAt (now ws) 0) × ClassMark (now ws) (now notes) (i + 1) × (refused ≡ anyRecord isRefused7 (recordsAt (now ws) (i + 1))) ⌝ }
+    ensures { λ r. ⌜ r ≡ anyRecord isRefused7 (recordsAt (now (ws .entry)) i) ⌝ }
 {
-    let mut i = 0;
-    while i < ws.len() {
-        if is_refused_7(ws, notes, i) {
-            return true;
-        }
-        i += 1;
+    if is_refused_7(ws, notes, i) {
+        return true;
     }
-    false
+    refused
 }
 
-// Of the record at `at`: a decorated class that has no decorators has a constructor, so that no test asks for one.
-fn is_refused_7(ws: &[u32], notes: &[u32], at: usize) -> bool
-    requires { ⌜ Planned (now ws) (now notes) × Fits (module′ ∷ []) (recordsAt (now ws) 0) × (at < length (now ws)) ⌝ }
-    ensures { λ r. ⌜ r ≡ isRefused7 (labelAt (now (ws .entry)) at) (kidsAt (now (ws .entry)) at) ⌝ }
+// Of the record at i, where the mark of a class right behind it is known: a decorated class that has no decorators has a constructor, so that no test
+// asks for one.
+fn is_refused_7(ws: &[u32], notes: &[u32], i: usize) -> bool
+    requires { ⌜ (i < length (now ws)) × Ends (now ws) (now notes) 0 × Fits (module′ ∷ []) (recordsAt (now ws) 0) × ClassMark (now ws) (now notes) (i + 1) ⌝ }
+    ensures { λ r. ⌜ r ≡ isRefused7 (labelAt (now (ws .entry)) i) (kidsAt (now (ws .entry)) i) ⌝ }
 {
-    if inspect::kind_at(ws, at) != 4 {
+    if inspect::kind_at(ws, i) != 4 {
         return false;
     }
-    if !inspect::is_live(ws, at + 1) {
+    if !inspect::is_live(ws, i + 1) {
         return false;
     }
-    if notes[at + 1] % 2 != 1 {
+    if notes[i + 1] % 2 == 0 {
         return false;
     }
-    !inspect::class_decorated_first(ws, notes, at + 1)
+    !inspect::class_decorated_first(ws, notes, i + 1)
 }

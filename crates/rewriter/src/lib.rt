@@ -88,8 +88,7 @@ pub fn turned_back_by(ws: &[u32], notes: &mut [u32]) -> u32
         return v;
     }
     records::find_ends(ws, notes);
-    mark_table::find_marks(ws, notes);
-    if mark_table::refused_7(ws, notes) {
+    if mark_table::find_marks(ws, notes) {
         return 7;
     }
     0

@@ -24,20 +24,17 @@ find-ends-requires c κs =
 find-marks-requires : tie.Need-find-marks-requires
 find-marks-requires c κs = (c .before .before .before .find-ends .ensures .0, start-fits (c .before .before .before .before .before .before .before .before .before .before .args .ws .now) (sym (c .before .before .before .before .before .before .number .ensures ∙ c .before .before .before .before .before .before .before .validate .ensures) ∙ c .before .before .before .before .before .if1 .left))
 
-refused-7-requires : tie.Need-refused-7-requires
-refused-7-requires c κs = (c .before .before .before .find-marks .ensures .0, start-fits (c .before .before .before .before .before .before .before .before .before .before .before .before .before .before .args .ws .now) (sym (c .before .before .before .before .before .before .before .before .before .before .number .ensures ∙ c .before .before .before .before .before .before .before .before .before .before .before .validate .ensures) ∙ c .before .before .before .before .before .before .before .before .before .if1 .left))
-
 same-length : tie.Need-same-length
 same-length c = search needs
 
 returns-2 : tie.Need-returns-2
-returns-2 c = (back-7 (c .before .before .before .before .before .before .before .before .before .before .before .before .before .before .before .before .args .ws .now) (c .before .before .before .before .before .before .before .before .before .before .before .before .number .result) (c .before .before .before .before .before .before .before .before .before .before .before .before .number .ensures ∙ c .before .before .before .before .before .before .before .before .before .before .before .before .before .validate .ensures) (c .before .before .before .before .before .before .before .before .before .before .before .if1 .left) (sym (c .before .refused-7 .ensures) ∙ c .if2 .taken), λ z. absurd (omega (arith, z)), c .before .before .before .before .before .find-marks .ensures .1 ∙ c .before .before .before .before .before .before .before .before .before .find-ends .ensures .1)
+returns-2 c = (back-7 (c .before .before .before .before .before .before .before .before .before .before .before .before .before .before .args .ws .now) (c .before .before .before .before .before .before .before .before .before .before .number .result) (c .before .before .before .before .before .before .before .before .before .before .number .ensures ∙ c .before .before .before .before .before .before .before .before .before .before .before .validate .ensures) (c .before .before .before .before .before .before .before .before .before .if1 .left) (sym (c .before .before .before .find-marks .ensures .0) ∙ c .if2 .taken), λ z. absurd (omega (arith, z)), c .before .before .before .find-marks .ensures .2 ∙ c .before .before .before .before .before .before .before .find-ends .ensures .1)
 
 same-length-2 : tie.Need-same-length-2
 same-length-2 c = search needs
 
 returns-3 : tie.Need-returns-3
-returns-3 c = (back-none (c .before .before .before .before .before .before .before .before .before .before .before .before .before .before .before .before .args .ws .now) (c .before .before .before .before .before .before .before .before .before .before .before .before .number .result) (c .before .before .before .before .before .before .before .before .before .before .before .before .number .ensures ∙ c .before .before .before .before .before .before .before .before .before .before .before .before .before .validate .ensures) (c .before .before .before .before .before .before .before .before .before .before .before .if1 .left) (sym (c .before .refused-7 .ensures) ∙ c .if2 .left), λ z. c .before .before .before .before .before .find-marks .ensures .0, c .before .before .before .before .before .find-marks .ensures .1 ∙ c .before .before .before .before .before .before .before .before .before .find-ends .ensures .1)
+returns-3 c = (back-none (c .before .before .before .before .before .before .before .before .before .before .before .before .before .before .args .ws .now) (c .before .before .before .before .before .before .before .before .before .before .number .result) (c .before .before .before .before .before .before .before .before .before .before .number .ensures ∙ c .before .before .before .before .before .before .before .before .before .before .before .validate .ensures) (c .before .before .before .before .before .before .before .before .before .if1 .left) (sym (c .before .before .before .find-marks .ensures .0) ∙ c .if2 .left), λ z. c .before .before .before .find-marks .ensures .1, c .before .before .before .find-marks .ensures .2 ∙ c .before .before .before .before .before .before .before .find-ends .ensures .1)
 
 pub turned-back-by-spec : {M : Type 1} → statement M
 turned-back-by-spec =
@@ -48,7 +45,6 @@ turned-back-by-spec =
     returns
     find-ends-requires
     find-marks-requires
-    refused-7-requires
     same-length
     returns-2
     same-length-2
