@@ -70,6 +70,9 @@ fn table() {
     for n in SIZES {
         inputs.push(Input::one("worst nesting", &worst.module(n)));
     }
+    for n in SIZES {
+        inputs.push(Input::one("nesting with the highest ratio", &by_ratio(n).swap_remove(0).shape.module(n)));
+    }
     let name = format!("symbol report of a typical script, {MOST_WORDS} words");
     inputs.push(Input { name, modules: vec![bytes_of(&typical(MOST_WORDS))], call: Call::Report });
     println!("| input | words written | proved, ns | Rust, ns | copy, ns | proved, ns a word | proved : Rust | proved : copy |");
@@ -326,10 +329,15 @@ fn slowest_first(n: usize) -> Vec<Measured> {
     all
 }
 
-/// Every shape at n words, those that take most of the plain Rust's time first.
-fn all_shapes(n: usize) {
+/// Every shape at n words, the one with the highest ratio first.
+fn by_ratio(n: usize) -> Vec<Measured> {
     let mut all = slowest_first(n);
     all.sort_by(|a, b| (b.ours / b.rust).total_cmp(&(a.ours / a.rust)));
+    all
+}
+
+fn all_shapes(n: usize) {
+    let all = by_ratio(n);
     let slower = all.iter().filter(|m| m.ours > m.rust).count();
     println!("{slower} of {} shapes at {n} words take more time than the plain Rust", all.len());
     println!("proved : Rust; proved, ns; proved, ns a word");
