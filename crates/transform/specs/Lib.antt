@@ -10,6 +10,8 @@ pub mod Plain
 pub mod Steps
 pub mod StepsClasses
 pub mod Copies
+pub mod Kept
 pub mod StepsRecords
+pub mod StepsKept
 pub mod StepsCalls
 pub mod StepsMembers

@@ -37,20 +37,12 @@ use Rattle.counter.specs.declared.Count.{Count}
 use Rattle.transform.specs.Contract.{wordBelow, wordsOf, stateIn, hereAt, afterAt, Asks, Moved, Emitted, kidsHere, behindWords, memberWords}
 use Rattle.transform.specs.Steps.{state-high, asks-row, asks-kids, emit-add, emit-past, size-more, here-none, after-none, here-more, after-more, end-more′, here-one, after-one, here-kids, after-kids, length-words}
 use Rattle.transform.specs.Plain.{isPlain, class-here, class-after}
+use Rattle.transform.specs.Kept.{kept-plain}
 use Rattle.transform.specs.declared.Went.{Went}
 
 -- ---- what a record becomes, by its role
 
 module _ (around : Around) (l : Label) (k : Trees) (s : State) where
-  plain-here : (roleOf l ≡ plain) ⊎ (roleOf l ≡ constructor) → visitOne around l k s .here ≡ tree l (visit around k s .here)
-  plain-here r = ⊎-elim a b r
-    where
-      a : roleOf l ≡ plain → visitOne around l k s .here ≡ tree l (visit around k s .here)
-      a e = unfold visitOne work since in rw e (unfold own kept inside entering in refl)
-
-      b : roleOf l ≡ constructor → visitOne around l k s .here ≡ tree l (visit around k s .here)
-      b e = unfold visitOne work since in rw e (unfold own kept inside entering in refl)
-
   list-here : roleOf l ≡ list → visitOne around l k s .here ≡ tree (recount l (visit around k s .here)) (visit around k s .here)
   unfolding visitOne work since
   list-here e = rw e (unfold own inside entering in refl)
@@ -94,27 +86,6 @@ module _ (ws : List ℕ) (at : ℕ) (a : Scope) (s : Count) (c : ClassStack) (h 
     };
     number = sym (ap countF t ∙ count-tree l f);
   }
-
-  -- ---- a record whose word stays
-
-  kept-after : (roleOf (labelAt ws at) ≡ plain) ⊎ (roleOf (labelAt ws at) ≡ constructor) → afterAt ws at 1 a s ≡ afterAt ws (at + 1) (arityAt ws at) a s
-  kept-after r = after-one ws at a s h ∙ ⊎-elim (after-plain (aroundOf a) (labelAt ws at) (kidsAt ws at) (stateIn s)) (after-constructor (aroundOf a) (labelAt ws at) (kidsAt ws at) (stateIn s)) r ∙ sym (after-kids ws at a s)
-
-  kept-tree : (roleOf (labelAt ws at) ≡ plain) ⊎ (roleOf (labelAt ws at) ≡ constructor) → hereAt ws at 1 a s ≡ tree (labelAt ws at) (hereAt ws (at + 1) (arityAt ws at) a s)
-  kept-tree r =
-      here-one ws at a s h ∙ plain-here (aroundOf a) (labelAt ws at) (kidsAt ws at) (stateIn s) r
-      ∙ ap (tree (labelAt ws at)) kids-here
-
-  pub kept-size : (roleOf (labelAt ws at) ≡ plain) ⊎ (roleOf (labelAt ws at) ≡ constructor) → size (hereAt ws at 1 a s) ≡ suc (size (hereAt ws (at + 1) (arityAt ws at) a s))
-  kept-size r = ap size (kept-tree r) ∙ size-tree (labelAt ws at) (hereAt ws (at + 1) (arityAt ws at) a s)
-
-  pub emit-kept : (k p n : ℕ) {o : List ℕ} {pos : ℕ} {o₁ : List ℕ} {q : ℕ} {o₂ : List ℕ} {r : Went} → (roleOf (labelAt ws at) ≡ plain) ⊎ (roleOf (labelAt ws at) ≡ constructor) →
-      k ≡ labelAt ws at .kind → p ≡ labelAt ws at .payload → n ≡ arityAt ws at → Wrote o pos (wordBelow c k p ∷ []) o₁ q → Emitted ws (at + 1) n a s c o₁ q o₂ r →
-      Emitted ws at 1 a s c o pos o₂ (record { at = r .at; pos = r .pos; next = r .next; default = r .default; count = 1 })
-  emit-kept k p n {o} {pos} {o₁} {q} {o₂} {r} role ek ep en w y =
-      let y′ : Emitted ws (at + 1) (arityAt ws at) a s c o₁ q o₂ r = subst (λ (i : ℕ). Emitted ws (at + 1) i a s c o₁ q o₂ r) en y in
-      let w′ : Wrote o pos (wordBelow c (labelAt ws at .kind) (labelAt ws at .payload) ∷ []) o₁ q = subst (λ (i : ℕ). Wrote o pos (wordBelow c (labelAt ws at .kind) i ∷ []) o₁ q) ep (subst (λ (i : ℕ). Wrote o pos (wordBelow c i p ∷ []) o₁ q) ek w) in
-      emit-tree (labelAt ws at) (hereAt ws (at + 1) (arityAt ws at) a s) (r .next) (r .default) (r .pos) (r .at) (kept-tree role) (wrote-then w′ (y′ .moved .wrote)) (kept-after role ∙ y′ .moved .state) (y′ .moved .place)
 
   -- ---- a list of statements
 
@@ -299,11 +270,11 @@ module _ (ws : List ℕ) (at : ℕ) (a : Scope) (s : Count) (c : ClassStack) (h 
   none-here = ap (λ (n : ℕ). hereAt ws (at + 1 + 1) n a s) symbols-arity ∙ here-none ws (at + 1 + 1) a s
 
   symbols-here : hereAt ws (at + 1) 1 a s ≡ tree (labelAt ws (at + 1)) end
-  symbols-here = kept-tree ws (at + 1) a s c symbols-inside (inl (role-40 (labelAt ws (at + 1)) symbols-kind)) ∙ ap (tree (labelAt ws (at + 1))) none-here
+  symbols-here = kept-plain ws (at + 1) symbols-inside (role-40 (labelAt ws (at + 1)) symbols-kind) .here a s ∙ ap (tree (labelAt ws (at + 1))) none-here
 
   symbols-after : afterAt ws (at + 1) 1 a s ≡ stateOf (s .next) (s .default)
   symbols-after =
-      kept-after ws (at + 1) a s c symbols-inside (inl (role-40 (labelAt ws (at + 1)) symbols-kind))
+      kept-plain ws (at + 1) symbols-inside (role-40 (labelAt ws (at + 1)) symbols-kind) .after a s
       ∙ ap (λ (n : ℕ). afterAt ws (at + 1 + 1) n a s) symbols-arity ∙ after-none ws (at + 1 + 1) a s ∙ (unfold stateIn in refl)
 
   all-here : hereAt ws (at + 1) (arityAt ws at) a s ≡ appendF (tree (labelAt ws (at + 1)) end) (hereAt ws (at + 2) (labelAt ws at .payload) a s)
@@ -423,28 +394,6 @@ module _ (l : Label) where
   unfolding roleOf lookup
   list-39 e = rw e
 
-  pub plain-rest : (l .kind ≡ 1 → ⊥) → (l .kind ≡ 3 → ⊥) → (l .kind ≡ 33 → ⊥) → (l .kind ≡ 39 → ⊥) → (l .kind ≡ 4 → ⊥) → (l .kind ≡ 20 → ⊥) → (l .kind ≡ 30 → ⊥) →
-      (l .kind ≡ 31 → ⊥) → (l .kind ≡ 32 → ⊥) → roleOf l ≡ plain
-  unfolding roleOf lookup
-  plain-rest a b c d e f g h i =
-      rw (ne-eqb _ 1 a, ne-eqb _ 3 b, ne-eqb _ 33 c, ne-eqb _ 39 d, ne-eqb _ 4 e, ne-eqb _ 20 f, ne-eqb _ 30 g, ne-eqb _ 31 h, ne-eqb _ 32 i)
-
-  pub constructor-30 : l .kind ≡ 30 → isConstructor l ≡ true → roleOf l ≡ constructor
-  unfolding roleOf lookup isConstructor is bit
-  constructor-30 e t = let b : bit bit1 l ≡ true = (rw (eq-eqb _ 30 e) at t) in rw (e, b)
-
-  pub member-30 : l .kind ≡ 30 → isConstructor l ≡ false → isMember l ≡ true
-  unfolding isConstructor isMember is
-  member-30 e t = let b : bit bit1 l ≡ false = (rw (eq-eqb _ 30 e) at t) in rw (eq-eqb _ 30 e, b)
-
-  pub member-31 : l .kind ≡ 31 → isMember l ≡ true
-  unfolding isMember is
-  member-31 e = rw e
-
-  pub member-32 : l .kind ≡ 32 → isMember l ≡ true
-  unfolding isMember is
-  member-32 e = rw e
-
 -- ---- numbers
 
 pub kind-small : (ws : List ℕ) (at k : ℕ) → k ≡ labelAt ws at .kind → getD ws at 0 < 4294967296 → k < 64
@@ -454,7 +403,7 @@ kind-small ws at k e h = omega (arith, e, kind-lt (getD ws at 0) h)
 -- ---- the loop over records
 
 -- one record has no more words than a row that begins with it
-first-le : (ws : List ℕ) (q k : ℕ) (a : Scope) (s : Count) → 1 ≤ k → size (hereAt ws q 1 a s) ≤ size (hereAt ws q k a s)
+pub first-le : (ws : List ℕ) (q k : ℕ) (a : Scope) (s : Count) → 1 ≤ k → size (hereAt ws q 1 a s) ≤ size (hereAt ws q k a s)
 unfolding hereAt
 first-le ws q k a s h =
     let j : k ≡ 1 + (k - 1) = omega arith in

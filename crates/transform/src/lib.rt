@@ -33,6 +33,7 @@ ghost use Rattle.transform.specs.Nest.{nestAt};
 ghost use Rattle.transform.specs.Contract.{wordBelow, wordsOf, stateIn, hereAt, callsAt, afterAt, kidsHere, Asks, Moved, Emitted, Queues, behindWords, memberWords, takesKey};
 ghost use Rattle.transform.specs.Copies.{Copies};
 ghost use Rattle.transform.specs.Plain.{isPlain};
+ghost use Rattle.transform.specs.Kept.{KeptAt};
 ghost use Rattle.transform.specs.ClassWords.{scopeOf, bodyWord, frontOf, blockOf, letWords, headOf, flagsOf, nameWords, frontWords, assignWords, elementsBy, bodyBy, firstBy, assignmentBy, PlanFrom, Plans};
 
 // Where the walk stands: in the words read and the words written; the state; how many records were written.
@@ -43,6 +44,9 @@ pub struct Went {
     pub default: u32,
     pub count: u32,
 }
+
+// The kinds whose words change, but for members: bit k for the kind k.
+const CHANGING: u64 = 1 << 1 | 1 << 3 | 1 << 4 | 1 << 20 | 1 << 33 | 1 << 39;
 
 // ---- words
 
@@ -170,13 +174,23 @@ pub fn record(
         4 => class_statement(ws, notes, at, a, s, c, out, pos),
         20 => expression(ws, notes, at, a, s, c, out, pos),
         30 => {
-            if inspect::is_constructor(inspect::word_at(ws, at)) {
+            if w % 2 == 0 {
                 return kept(ws, notes, at, a, s, c, out, pos);
             }
             member(ws, notes, at, a, s, c, out, pos)
         }
-        31 => member(ws, notes, at, a, s, c, out, pos),
-        32 => member(ws, notes, at, a, s, c, out, pos),
+        31 => {
+            if w % 2 == 0 {
+                return kept(ws, notes, at, a, s, c, out, pos);
+            }
+            member(ws, notes, at, a, s, c, out, pos)
+        }
+        32 => {
+            if w % 2 == 0 {
+                return kept(ws, notes, at, a, s, c, out, pos);
+            }
+            member(ws, notes, at, a, s, c, out, pos)
+        }
         _ => kept(ws, notes, at, a, s, c, out, pos),
     }
 }
@@ -237,7 +251,8 @@ fn program(
     }
 }
 
-// A record whose word stays as it is.
+// A record whose word stays as it is, and what stands in it. The records in one that stays follow its word, so that one loop writes them, down to
+// those that are copied and those that change.
 fn kept(
     ws: &[u32],
     notes: &[u32],
@@ -248,34 +263,87 @@ fn kept(
     out: &mut [u32],
     pos: usize,
 ) -> Went
-    requires { ⌜ Asks (now ws) (now notes) at 1 (s .next) c pos (size (hereAt (now ws) at 1 a s)) × (at < length (now ws)) × ((roleOf (labelAt (now ws) at) ≡ plain) ⊎ (roleOf (labelAt (now ws) at) ≡ constructor)) ⌝ }
+    requires { ⌜ Asks (now ws) (now notes) at 1 (s .next) c pos (size (hereAt (now ws) at 1 a s)) × KeptAt (now ws) at ⌝ }
     ensures { λ r. ⌜ Emitted (now (ws .entry)) at 1 a s c (now (out .entry)) pos (now (out .exit)) r ⌝ }
 {
-    let p = put(
+    let mut p = put(
         c,
         inspect::kind_at(ws, at),
         inspect::payload_at(ws, at),
         out,
         pos,
     );
-    let r = records(
-        ws,
-        notes,
-        at + 1,
-        inspect::children_at(ws, at),
-        a,
-        s,
-        c,
-        out,
-        p,
-    );
+    let mut q = at + 1;
+    let mut k = inspect::children_at(ws, at);
+    let mut n = s.next;
+    let mut d = s.default;
+    while k != 0 {
+        if ws.len() <= q {
+            return Went {
+                at: q,
+                pos: p,
+                next: n,
+                default: d,
+                count: 1,
+            };
+        }
+        let noted = notes[q];
+        if noted / 2 % 2 == 1 {
+            let e = (noted / 65536) as usize;
+            p = copied(ws, q, e, c, out, p);
+            q = e;
+            k -= 1;
+            continue;
+        }
+        if is_kept(ws, notes, q) {
+            p = put(
+                c,
+                inspect::kind_at(ws, q),
+                inspect::payload_at(ws, q),
+                out,
+                p,
+            );
+            k = k - 1 + inspect::children_at(ws, q);
+            q += 1;
+            continue;
+        }
+        let r = record(
+            ws,
+            notes,
+            q,
+            a,
+            Count {
+                next: n,
+                default: d,
+            },
+            c,
+            out,
+            p,
+        );
+        q = r.at;
+        p = r.pos;
+        n = r.next;
+        d = r.default;
+        k -= 1;
+    }
     Went {
-        at: r.at,
-        pos: r.pos,
-        next: r.next,
-        default: r.default,
+        at: q,
+        pos: p,
+        next: n,
+        default: d,
         count: 1,
     }
+}
+
+// Does the word of the record at `at` stay as it is? So does a member's that isn't decorated.
+fn is_kept(ws: &[u32], notes: &[u32], at: usize) -> bool
+    requires { ⌜ Planned (now ws) (now notes) × Fits (module′ ∷ []) (recordsAt (now ws) 0) × (at < length (now ws)) ⌝ }
+    ensures { λ r. ⌜ (r ≡ true → KeptAt (now (ws .entry)) at) ⌝ }
+{
+    if words::kind_bit(CHANGING, inspect::word_at(ws, at)) != 0 {
+        return false;
+    }
+    notes[at] % 2 == 0
 }
 
 // A list of statements, counted again: its word is put in front last.
@@ -334,11 +402,10 @@ fn expression(
         out,
         pos,
     );
-    let r = records(
+    let r = kept(
         ws,
         notes,
         at + 1,
-        1,
         Scope {
             live: false,
             id: NONE,
@@ -417,11 +484,10 @@ fn plain(
         out,
         pos,
     );
-    let r = records(
+    let r = kept(
         ws,
         notes,
         at + 1,
-        1,
         Scope { live, id },
         Count {
             next: s.next,

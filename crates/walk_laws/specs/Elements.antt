@@ -32,23 +32,23 @@ pub below-29 : (q : Slot) (p : ℕ) → slotsBelow q 29 p ≡ replicate p elemen
 unfolding slotsBelow rowOf lookup table row slots
 below-29 q p = append-nil (replicate p element)
 
-below-36 : (q : Slot) (p : ℕ) → slotsBelow q 36 p ≡ replicate p (parameterOf (q .context))
+pub below-36 : (q : Slot) (p : ℕ) → slotsBelow q 36 p ≡ replicate p (parameterOf (q .context))
 unfolding slotsBelow rowOf lookup table row slots
 below-36 q p = append-nil (replicate p (parameterOf (q .context)))
 
-below-30 : (q : Slot) (p : ℕ) → slotsBelow q 30 p ≡ methodDecorators (bit1 p) ∷ key ∷ methodParameters ∷ (replicate (bit2 p) code ++ [])
+pub below-30 : (q : Slot) (p : ℕ) → slotsBelow q 30 p ≡ methodDecorators (bit1 p) ∷ key ∷ methodParameters ∷ (replicate (bit2 p) code ++ [])
 unfolding slotsBelow rowOf lookup table row slots
 below-30 q p = refl
 
-below-31 : (q : Slot) (p : ℕ) → slotsBelow q 31 p ≡ slot Decorators 0 ∷ key ∷ (replicate (bit1 p) expression ++ [])
+pub below-31 : (q : Slot) (p : ℕ) → slotsBelow q 31 p ≡ slot Decorators 0 ∷ key ∷ (replicate (bit1 p) expression ++ [])
 unfolding slotsBelow rowOf lookup table row slots
 below-31 q p = refl
 
-below-32 : (q : Slot) (p : ℕ) → slotsBelow q 32 p ≡ slot Decorators 0 ∷ key ∷ []
+pub below-32 : (q : Slot) (p : ℕ) → slotsBelow q 32 p ≡ slot Decorators 0 ∷ key ∷ []
 unfolding slotsBelow rowOf lookup table row slots
 below-32 q p = refl
 
-below-37 : (q : Slot) (p : ℕ) → slotsBelow q 37 p ≡ parameterDecorators (q .context) ∷ (replicate p expression ++ [])
+pub below-37 : (q : Slot) (p : ℕ) → slotsBelow q 37 p ≡ parameterDecorators (q .context) ∷ (replicate p expression ++ [])
 unfolding slotsBelow rowOf lookup table row slots
 below-37 q p = refl
 
@@ -60,7 +60,7 @@ parameters-kind : (x : ℕ) (l : Label) → Allowed (slot Parameters x) l → l 
 unfolding soleKind lookup
 parameters-kind x l a = allowed-sole (slot Parameters x) l a tt
 
-parameter-kind : (x : ℕ) (l : Label) → Allowed (slot Parameter x) l → l .kind ≡ 37
+pub parameter-kind : (x : ℕ) (l : Label) → Allowed (slot Parameter x) l → l .kind ≡ 37
 unfolding soleKind lookup
 parameter-kind x l a = allowed-sole (slot Parameter x) l a tt
 
@@ -70,7 +70,7 @@ unfolding is
 other-kind q l k a n = ne-eqb (l .kind) k λ e. n (ap (λ (m : ℕ). rowOf m .category) (sym e) ∙ allowed-row q (l .kind) (l .payload) (a .grammar) .0)
 
 -- a key is no 36
-key-other : (l : Label) → Allowed key l → is 36 l ≡ false
+pub key-other : (l : Label) → Allowed key l → is 36 l ≡ false
 unfolding rowOf lookup table row
 key-other l a = other-kind key l 36 a λ e. omega arith
 
@@ -174,17 +174,17 @@ key-plain ws at y =
 -- ---- parts of children that begin with a 28
 
 module _ (l : Label) (k r : Trees) (e : l .kind ≡ 28) where
-  decorators-first : decorators (node l k r) ≡ k
+  pub decorators-first : decorators (node l k r) ≡ k
   unfolding decorators
   decorators-first = rw (is-kind l 28 e)
 
-  undecorate-first : undecorate (node l k r) ≡ node (repay l 0) end r
+  pub undecorate-first : undecorate (node l k r) ≡ node (repay l 0) end r
   unfolding undecorate
   undecorate-first = rw (is-kind l 28 e)
 
 -- a key stands between the 28 and the 36
 module _ (d c p : Label) (x y z w : Trees) (e : d .kind ≡ 28) (n : is 36 c ≡ false) (h : p .kind ≡ 36) where
-  parameters-third : parametersOf (node d x (node c y (node p z w))) ≡ z
+  pub parameters-third : parametersOf (node d x (node c y (node p z w))) ≡ z
   unfolding parametersOf kidsOf
   parameters-third = rw (is-other d 28 36 e refl, n, is-kind p 36 h)
 
@@ -253,7 +253,7 @@ module _ (ws : List ℕ) (around : Around) where
           ap (λ (n : ℕ). visitAt ws (parametersAt ws at) n around (atParameters ws around at s) .here) (c .count)
           ∙ here-first (parametersAt ws at) (arityAt ws at - 3) (atParameters ws around at s) _ _ (plain-here ws around (parametersAt ws at) (atParameters ws around at s) (c .place) (plain-36 _ (c .kind)))
 
-      called-here : visit around (kidsAt ws at) s .here ≡
+      pub called-here : visit around (kidsAt ws at) s .here ≡
           node (labelAt ws (at + 1)) (visit around (kidsAt ws (at + 1)) s .here) (
           node (labelAt ws (keyAt ws at)) (key-stays (c .keyed) .below) (
           node (labelAt ws (parametersAt ws at)) (visit around (kidsAt ws (parametersAt ws at)) (atParameters ws around at s) .here)

@@ -9,6 +9,7 @@ pub mod Quiet
 pub mod Around
 pub mod Still
 pub mod Elements
+pub mod Bare
 pub mod Members
 pub mod Calls
 pub mod Default

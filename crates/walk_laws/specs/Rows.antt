@@ -74,7 +74,7 @@ module _ (ws : List ℕ) (around : Around) where
 -- ---- a record by its role
 
 module _ (around : Around) (l : Label) (k : Trees) (s : State) where
-  plain-one : roleOf l ≡ plain → visitOne around l k s ≡ record { here = tree l (visit around k s .here); calls = visit around k s .calls; fresh = visit around k s .fresh ++ []; after = visit around k s .after }
+  pub plain-one : roleOf l ≡ plain → visitOne around l k s ≡ record { here = tree l (visit around k s .here); calls = visit around k s .calls; fresh = visit around k s .fresh ++ []; after = visit around k s .after }
   unfolding visitOne work since
   plain-one e = rw e (unfold own kept inside entering signedBy in refl)
 

@@ -25,15 +25,15 @@ fits-count [] (node l k r) h = absurd h
 fits-count (q ∷ qs) end h = absurd h
 fits-count (q ∷ qs) (node l k r) h = ap suc (fits-count qs r (h .2))
 
-none-fits : (l : Label) (k r : Trees) → Fits [] (node l k r) → ⊥
+pub none-fits : (l : Label) (k r : Trees) → Fits [] (node l k r) → ⊥
 unfolding Fits
 none-fits l k r h = h
 
-fits-first : (q : Slot) (qs : List Slot) (l : Label) (k r : Trees) → Fits (q ∷ qs) (node l k r) → Allowed q l × Fits (slotsBelow q (l .kind) (l .payload)) k × Fits qs r
+pub fits-first : (q : Slot) (qs : List Slot) (l : Label) (k r : Trees) → Fits (q ∷ qs) (node l k r) → Allowed q l × Fits (slotsBelow q (l .kind) (l .payload)) k × Fits qs r
 unfolding Fits
 fits-first q qs l k r h = h
 
-no-fits : (q : Slot) (qs : List Slot) → Fits (q ∷ qs) end → ⊥
+pub no-fits : (q : Slot) (qs : List Slot) → Fits (q ∷ qs) end → ⊥
 unfolding Fits
 no-fits q qs h = h
 

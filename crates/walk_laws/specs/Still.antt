@@ -50,7 +50,7 @@ Still (node l k r) = StillOne (roleOf l) l k × Still k × Still r
 unfoldable same : Trees → State → Result
 same f s = record { here = f; calls = end; fresh = []; after = s }
 
-repaid : (l : Label) (n : ℕ) → l .payload ≡ n → repay l n ≡ l
+pub repaid : (l : Label) (n : ℕ) → l .payload ≡ n → repay l n ≡ l
 unfolding repay
 repaid l n e = ap (λ (p : ℕ). record { kind = l .kind; payload = p; from = l .from }) (sym e)
 
@@ -107,17 +107,17 @@ unfoldable Counted : Trees → Type 0
 Counted end = Unit {0}
 Counted (node l k r) = (l .kind ≡ 28 → l .payload ≡ countF k) × Counted k × Counted r
 
-empty-end : (f : Trees) → isEmpty f ≡ true → f ≡ end
+pub empty-end : (f : Trees) → isEmpty f ≡ true → f ≡ end
 unfolding isEmpty
 empty-end end e = refl
 empty-end (node l k r) e = absurd (true≢false (sym e))
 
-empty-append : (f g : Trees) → isEmpty (appendF f g) ≡ true → (isEmpty f ≡ true) × (isEmpty g ≡ true)
+pub empty-append : (f g : Trees) → isEmpty (appendF f g) ≡ true → (isEmpty f ≡ true) × (isEmpty g ≡ true)
 unfolding isEmpty appendF
 empty-append end g e = (refl, e)
 empty-append (node l k r) g e = absurd (true≢false (sym e))
 
-empty-indexed : (i : ℕ) (f : Trees) → isEmpty (indexed i f) ≡ true → isEmpty f ≡ true
+pub empty-indexed : (i : ℕ) (f : Trees) → isEmpty (indexed i f) ≡ true → isEmpty f ≡ true
 unfolding isEmpty indexed
 empty-indexed i end e = refl
 empty-indexed i (node l k r) e = absurd (true≢false (sym e))
@@ -175,7 +175,7 @@ many-3 : (p : ℕ) → children 3 p ≡ p
 unfolding children childTable lookup
 many-3 p = refl
 
-many-28 : (p : ℕ) → children 28 p ≡ p
+pub many-28 : (p : ℕ) → children 28 p ≡ p
 unfolding children childTable lookup
 many-28 p = refl
 
@@ -207,7 +207,7 @@ other-role l k e1 e4 e20 e30 e31 e32 n =
     go false x false y false z = unfold StillOne in tt
 
 -- a member, by its role
-member-role : (l : Label) (k : Trees) (r : Role) → roleOf l ≡ r → isMember l ≡ true → isDecoratedMember l k ≡ false → isEmpty (decoratorsOf r k) ≡ true
+pub member-role : (l : Label) (k : Trees) (r : Role) → roleOf l ≡ r → isMember l ≡ true → isDecoratedMember l k ≡ false → isEmpty (decoratorsOf r k) ≡ true
 unfolding isDecoratedMember
 member-role l k r e m h = not-none _ (rw (m, e) at h)
 
@@ -292,7 +292,7 @@ still-role q l k f c e h n = go (eqb (l .kind) 1) refl (eqb (l .kind) 4) refl (e
         by-role (field (13 ∶ 0)) (role-32 l g) (fields (13 ∶ 0) (role-32 l g) (member-kind l 32 g refl refl))
     go false e1 false e4 false e20 false e30 false e31 false e32 = other-role l k e1 e4 e20 e30 e31 e32 n
 
-kids-number : (q : Slot) (l : Label) (k : Trees) → Allowed q l → Fits (slotsBelow q (l .kind) (l .payload)) k → countF k ≡ children (l .kind) (l .payload)
+pub kids-number : (q : Slot) (l : Label) (k : Trees) → Allowed q l → Fits (slotsBelow q (l .kind) (l .payload)) k → countF k ≡ children (l .kind) (l .payload)
 kids-number q l k a f = fits-count _ k f ∙ length-below q (l .kind) (l .payload) (a .grammar)
 
 fits-counted : (f : Trees) (qs : List Slot) → Fits qs f → Counted f

@@ -1,3 +1,6 @@
+use Rattle.records.specs.Place.{end-one}
+use Rattle.transform.specs.StepsKept.{Keeping, keeping-start, keeping-asks, keeping-kept, keeping-one, keeping-all, keeping-past, emit-kept}
+use Rattle.transform.specs.Kept.{plain-rest, kept-plain, unmarked-30, unmarked-31, unmarked-32, marked-member, kept-statement, kept-expression}
 -- The walkers that call one another: each need is a law of specs/Steps*.antt, Copies.antt or Plans.antt. The measure is the words left, and for the walkers of one
 -- place a rank.
 use Rattle.transform.specs.Marks.{allowed-mark, allowed-single}
@@ -39,13 +42,12 @@ use Rattle.records.specs.Place.{arityAt, end-low}
 use lib.ListN.{length}
 use Prim.Native.Nat.{_+_, _*_, _-_, _≤_}
 use mathlib.Core.Path.{refl, ap, sym, _∙_}
-use Rattle.transform.specs.StepsRecords.{kept-size, emit-kept, list-size, emit-list, expression-size, emit-expression, class-size, emit-class, module-size, emit-module, module-asks, module-inside, emit-inside, asks-one, one-20, next-small, member-size, emit-member, list-3, list-33, list-39, plain-rest, constructor-30, member-30, member-31, member-32, kind-small, emit-rest, asks-next, next-size}
+use Rattle.transform.specs.StepsRecords.{list-size, emit-list, expression-size, emit-expression, class-size, emit-class, module-size, emit-module, module-asks, module-inside, emit-inside, asks-one, one-20, next-small, member-size, emit-member, list-3, list-33, list-39, kind-small, emit-rest, asks-next, next-size}
 use Rattle.transform.specs.Steps.{asks-kids, asks-words, emit-none, emit-add, length-words}
 use Rattle.transform.specs.Contract.{hereAt, Asks, Emitted, memberWords}
 use Rattle.counter.specs.declared.Scope.{Scope}
 use Rattle.counter.specs.declared.Count.{Count}
 use Rattle.walk_laws.specs.Kinds.{isElementKind, class-one}
-use Rattle.inspect.specs.Class.{constructor-at}
 use Rattle.inspect.specs.Child.{opt-none}
 use Rattle.records.specs.Place.{labelAt, arityAt, end-low}
 use Rattle.records.specs.Forest.{size, count-size}
@@ -133,16 +135,15 @@ use Rattle.transform.proofs.+bare+call+calls+class_body+class_statement
 use Rattle.transform.proofs.transform_decorators_of_parameters.Reads as transform-decorators-of-parameters
 use Rattle.transform.proofs.transform_decorators_of_parameters.Kinds as transform-decorators-of-parameters-kinds
 use Rattle.transform.proofs.+bare+call+calls+class_body+class_statement+create_assignment+elements+entries+expression+first_entries+indexed+kept+list+live_class+member+parameter+parameters+plain+program+queue+record+records+transform_class+transform_decorators_of_parameters.Lts-transform_decorators_of_parameters as transform-decorators-of-parameters-lts
+use Rattle.transform.proofs.is_kept.Reads as is-kept-reads
 use Rattle.counter.proofs.count_record.Reads as count-record-reads
 use Rattle.counter.proofs.count_records.Reads as count-records-reads
 use Rattle.inspect.proofs.children_at.Reads as children-at-reads
 use Rattle.inspect.proofs.class_id.Reads as class-id-reads
 use Rattle.inspect.proofs.first_constructor.Reads as first-constructor-reads
-use Rattle.inspect.proofs.is_constructor.Reads as is-constructor-reads
 use Rattle.inspect.proofs.is_live.Reads as is-live-reads
 use Rattle.inspect.proofs.kind_at.Reads as kind-at-reads
 use Rattle.inspect.proofs.payload_at.Reads as payload-at-reads
-use Rattle.inspect.proofs.word_at.Reads as word-at-reads
 use Rattle.transform.proofs.alias_block.Reads as alias-block-reads
 use Rattle.transform.proofs.arguments.Reads as arguments-reads
 use Rattle.transform.proofs.assignment_head.Reads as assignment-head-reads
@@ -466,7 +467,7 @@ abbrev entries-uses : ℕ → entries-lts.Claims
 entries-uses t = (children-at-reads.Asked, children-at-reads.Learnt, records-below t, records.Post, kind-at-reads.Asked, kind-at-reads.Learnt, count-records-reads.Asked, count-records-reads.Learnt, transform-decorators-of-parameters-below t, transform-decorators-of-parameters.Post)
 
 abbrev expression-uses : ℕ → expression-lts.Claims
-expression-uses t = (kind-at-reads.Asked, kind-at-reads.Learnt, payload-at-reads.Asked, payload-at-reads.Learnt, put-reads.Asked, put-reads.Learnt, records-below t, records.Post)
+expression-uses t = (kind-at-reads.Asked, kind-at-reads.Learnt, payload-at-reads.Asked, payload-at-reads.Learnt, put-reads.Asked, put-reads.Learnt, kept-below t, kept.Post)
 
 abbrev first-entries-uses : ℕ → first-entries-lts.Claims
 first-entries-uses t = (children-at-reads.Asked, children-at-reads.Learnt, first-constructor-reads.Asked, first-constructor-reads.Learnt, count-records-reads.Asked, count-records-reads.Learnt, transform-decorators-of-parameters-below t, transform-decorators-of-parameters.Post)
@@ -475,7 +476,7 @@ abbrev indexed-uses : ℕ → indexed-lts.Claims
 indexed-uses t = (count-record-reads.Asked, count-record-reads.Learnt, children-at-reads.Asked, children-at-reads.Learnt, put-reads.Asked, put-reads.Learnt, record-below t, record.Post)
 
 abbrev kept-uses : ℕ → kept-lts.Claims
-kept-uses t = (kind-at-reads.Asked, kind-at-reads.Learnt, payload-at-reads.Asked, payload-at-reads.Learnt, put-reads.Asked, put-reads.Learnt, children-at-reads.Asked, children-at-reads.Learnt, records-below t, records.Post)
+kept-uses t = (kind-at-reads.Asked, kind-at-reads.Learnt, payload-at-reads.Asked, payload-at-reads.Learnt, put-reads.Asked, put-reads.Learnt, children-at-reads.Asked, children-at-reads.Learnt, copied-reads.Asked, copied-reads.Learnt, is-kept-reads.Asked, is-kept-reads.Learnt, record-below t, record.Post)
 
 abbrev list-uses : ℕ → list-lts.Claims
 list-uses t = (children-at-reads.Asked, children-at-reads.Learnt, records-below t, records.Post, kind-at-reads.Asked, kind-at-reads.Learnt, put-reads.Asked, put-reads.Learnt)
@@ -493,7 +494,7 @@ abbrev parameters-uses : ℕ → parameters-lts.Claims
 parameters-uses t = (children-at-reads.Asked, children-at-reads.Learnt, payload-at-reads.Asked, payload-at-reads.Learnt, put-reads.Asked, put-reads.Learnt, parameter-below t, parameter.Post)
 
 abbrev plain-uses : ℕ → plain-lts.Claims
-plain-uses t = (class-id-reads.Asked, class-id-reads.Learnt, kind-at-reads.Asked, kind-at-reads.Learnt, payload-at-reads.Asked, payload-at-reads.Learnt, put-reads.Asked, put-reads.Learnt, records-below t, records.Post)
+plain-uses t = (class-id-reads.Asked, class-id-reads.Learnt, kind-at-reads.Asked, kind-at-reads.Learnt, payload-at-reads.Asked, payload-at-reads.Learnt, put-reads.Asked, put-reads.Learnt, kept-below t, kept.Post)
 
 abbrev program-uses : ℕ → program-lts.Claims
 program-uses t = (payload-at-reads.Asked, payload-at-reads.Learnt, records-below t, records.Post, put-reads.Asked, put-reads.Learnt)
@@ -502,7 +503,7 @@ abbrev queue-uses : ℕ → queue-lts.Claims
 queue-uses t = (children-at-reads.Asked, children-at-reads.Learnt, count-records-reads.Asked, count-records-reads.Learnt, calls-below t, calls.Post, create-assignment-below t, create-assignment.Post, payload-at-reads.Asked, payload-at-reads.Learnt, create-export-reads.Asked, create-export-reads.Learnt, export-count-reads.Asked, export-count-reads.Learnt)
 
 abbrev record-uses : ℕ → record-lts.Claims
-record-uses t = (copied-reads.Asked, copied-reads.Learnt, kind-at-reads.Asked, kind-at-reads.Learnt, program-below t, program.Post, list-below t, list.Post, class-statement-below t, class-statement.Post, expression-below t, expression.Post, word-at-reads.Asked, word-at-reads.Learnt, is-constructor-reads.Asked, is-constructor-reads.Learnt, kept-below t, kept.Post, member-below t, member.Post)
+record-uses t = (copied-reads.Asked, copied-reads.Learnt, kind-at-reads.Asked, kind-at-reads.Learnt, program-below t, program.Post, list-below t, list.Post, class-statement-below t, class-statement.Post, expression-below t, expression.Post, kept-below t, kept.Post, member-below t, member.Post)
 
 abbrev records-uses : ℕ → records-lts.Claims
 records-uses t = (copied-reads.Asked, copied-reads.Learnt, record-below t, record.Post)
@@ -996,12 +997,6 @@ create-assignment-returns t c =
 elements-children-at-requires : (t : ℕ) → elements-lts.Need-children-at-requires (elements-uses t) (elements-at t) elements.Post
 elements-children-at-requires t c κs = search needs
 
-elements-add-first-constructor : (t : ℕ) → elements-lts.Need-add-first-constructor (elements-uses t) (elements-at t) elements.Post
-elements-add-first-constructor t c = omega (arith, c .before .before .before .before .before .before .pre .1 .1, c .before .before .before .before .before .before .pre .1 .0 .ready .few)
-
-elements-first-constructor-requires : (t : ℕ) → elements-lts.Need-first-constructor-requires (elements-uses t) (elements-at t) elements.Post
-elements-first-constructor-requires t c κs = c .before .before .before .before .before .before .pre .1 .0 .ready .planned .ends
-
 elements-add-records : (t : ℕ) → elements-lts.Need-add-records (elements-uses t) (elements-at t) elements.Post
 elements-add-records t c = omega (arith, c .before .before .before .before .before .before .pre .1 .1, c .before .before .before .before .before .before .pre .1 .0 .ready .few)
 
@@ -1017,6 +1012,12 @@ elements-returns : (t : ℕ) → elements-lts.Need-returns (elements-uses t) (el
 elements-returns t c =
     let p = c .before .before .before .before .before .before .before .before .before .before .pre .1 in
     elements-wrote (c .before .before .before .before .before .before .before .before .before .before .args .g) (c .before .before .before .before .before .before .before .before .before .before .args .s) (p .0) (p .1) (p .2) (c .before .before .before .before .before .before .children-at .result) (c .before .before .before .before .before .before .children-at .ensures .0) (elements-plain (c .before .before .before .before .before .before .before .before .before .before .args .g) (c .before .before .before .before .before .before .before .before .before .before .args .s) (p .0) (p .1) (p .2) (not-true _ (c .before .before .before .before .if1 .taken))) (c .before .before .records .ensures)
+
+elements-add-first-constructor : (t : ℕ) → elements-lts.Need-add-first-constructor (elements-uses t) (elements-at t) elements.Post
+elements-add-first-constructor t c = omega (arith, c .before .before .before .before .before .before .pre .1 .1, c .before .before .before .before .before .before .pre .1 .0 .ready .few)
+
+elements-first-constructor-requires : (t : ℕ) → elements-lts.Need-first-constructor-requires (elements-uses t) (elements-at t) elements.Post
+elements-first-constructor-requires t c κs = c .before .before .before .before .before .before .pre .1 .0 .ready .planned .ends
 
 elements-add-records-2 : (t : ℕ) → elements-lts.Need-add-records-2 (elements-uses t) (elements-at t) elements.Post
 elements-add-records-2 t c = omega (arith, c .before .before .before .before .before .before .before .before .pre .1 .1, c .before .before .before .before .before .before .before .before .pre .1 .0 .ready .few)
@@ -1161,25 +1162,25 @@ expression-put-requires t c κs =
     let f = c .before .before .before .before .before .before .pre .1 in
     (f .0 .stack, omega (arith, f .0 .fit), kind-small (g .ws .now) (g .at) (c .before .before .kind-at .result) (c .before .before .kind-at .ensures) (omega (arith, c .before .before .before .before .before .shared-slice-known .given (g .at))), c .before .payload-at .ensures .1)
 
-expression-add-records : (t : ℕ) → expression-lts.Need-add-records (expression-uses t) (expression-at t) expression.Post
-expression-add-records t c = omega (arith, c .before .before .before .before .before .before .before .before .before .pre .1 .1, c .before .before .before .before .before .before .before .before .before .pre .1 .0 .ready .few)
+expression-add-kept : (t : ℕ) → expression-lts.Need-add-kept (expression-uses t) (expression-at t) expression.Post
+expression-add-kept t c = omega (arith, c .before .before .before .before .before .before .before .before .before .pre .1 .1, c .before .before .before .before .before .before .before .before .before .pre .1 .0 .ready .few)
 
-expression-records-requires : (t : ℕ) → expression-lts.Need-records-requires (expression-uses t) (expression-at t) expression.Post
-expression-records-requires t c κs =
+expression-kept-requires : (t : ℕ) → expression-lts.Need-kept-requires (expression-uses t) (expression-at t) expression.Post
+expression-kept-requires t c κs =
     let g = c .before .before .before .before .before .before .before .before .before .before .args in
     let f = c .before .before .before .before .before .before .before .before .before .before .pre .1 in
     let b : Scope = record { live = false; id = 67108864 } in
     let t : Count = record { next = g .s .next; default = 67108864 } in
-    (omega (arith, c .before .before .before .before .before .before .before .before .before .before .pre .0, f .1), asks-one (f .0) (one-20 (g .ws .now) (g .at) (g .a) (g .s) (g .c) (f .1) (f .2)) (c .before .before .before .put .result) (size (hereAt (g .ws .now) (g .at + 1) 1 b t)) (f .1) (omega (arith, f .0 .fit, expression-size (g .ws .now) (g .at) (g .a) (g .s) (g .c) (f .1) (f .2) b refl opt-none, c .before .before .before .put .ensures .end)))
+    (omega (arith, c .before .before .before .before .before .before .before .before .before .before .pre .0, f .1), (asks-one (f .0) (one-20 (g .ws .now) (g .at) (g .a) (g .s) (g .c) (f .1) (f .2)) (c .before .before .before .put .result) (size (hereAt (g .ws .now) (g .at + 1) 1 b t)) (f .1) (omega (arith, f .0 .fit, expression-size (g .ws .now) (g .at) (g .a) (g .s) (g .c) (f .1) (f .2) b refl opt-none, c .before .before .before .put .ensures .end)), kept-expression (g .ws .now) (f .0 .ready .whole) (g .at) (f .1) (f .2)))
 
 expression-same-length : (t : ℕ) → expression-lts.Need-same-length (expression-uses t) (expression-at t) expression.Post
-expression-same-length t c = c .before .before .records .kept .1 .1 .1 .1 .1 .1 .1 .0 ∙ c .before .before .before .before .before .before .put .kept .1 .1 .1 .0
+expression-same-length t c = c .before .before .kept .kept .1 .1 .1 .1 .1 .1 .0 ∙ c .before .before .before .before .before .before .put .kept .1 .1 .1 .0
 
 expression-returns : (t : ℕ) → expression-lts.Need-returns (expression-uses t) (expression-at t) expression.Post
 expression-returns t c =
     let g = c .before .before .before .before .before .before .before .before .before .before .before .before .before .args in
     let f = c .before .before .before .before .before .before .before .before .before .before .before .before .before .pre .1 in
-    emit-expression (g .ws .now) (g .at) (g .a) (g .s) (g .c) (f .1) (f .2) (record { live = false; id = 67108864 }) refl opt-none (c .before .before .before .before .before .before .before .before .before .kind-at .result) (c .before .before .before .before .before .before .before .before .payload-at .result) (c .before .before .before .before .before .before .before .before .before .kind-at .ensures) (c .before .before .before .before .before .before .before .before .payload-at .ensures .0) (c .before .before .before .before .before .before .put .ensures) (c .before .before .records .ensures)
+    emit-expression (g .ws .now) (g .at) (g .a) (g .s) (g .c) (f .1) (f .2) (record { live = false; id = 67108864 }) refl opt-none (c .before .before .before .before .before .before .before .before .before .kind-at .result) (c .before .before .before .before .before .before .before .before .payload-at .result) (c .before .before .before .before .before .before .before .before .before .kind-at .ensures) (c .before .before .before .before .before .before .before .before .payload-at .ensures .0) (c .before .before .before .before .before .before .put .ensures) (c .before .before .kept .ensures)
 
 first-entries-children-at-requires : (t : ℕ) → first-entries-lts.Need-children-at-requires (first-entries-uses t) (first-entries-at t) first-entries.Post
 first-entries-children-at-requires t c κs = search needs
@@ -1305,42 +1306,149 @@ indexed-returns t c =
     let e : l .i ≡ c .before .before .children-at .result = omega (arith, l .inv .0) in
     decorators-done (g .ws .now) (g .at) (g .a) (g .s) (g .c) (g .j) (e ∙ c .before .before .children-at .ensures .0) (l .inv .1) (c .before .before .before .count-record .ensures) (c .before .before .children-at .result) (sym e)
 
-kept-kind-at-requires : (t : ℕ) → kept-lts.Need-kind-at-requires (kept-uses t) (kept-at t) kept.Post
+abbrev kept-Inv-loop : kept-lts.InvT-loop
+kept-Inv-loop ws notes at a c out₀ pos p₀ q₀ k₀ n₀ d₀ out p q k n d = (length out ≡ length out₀) × Keeping ws notes q₀ k₀ a (record { next = n₀; default = d₀ }) c out₀ p₀ q k n d out p
+
+abbrev kept-μ-loop : kept-lts.MeasureT-loop
+kept-μ-loop ws notes at a c out₀ pos p₀ q₀ k₀ n₀ d₀ out p q k n d = length ws - q
+
+kept-kind-at-requires : (t : ℕ) → kept-lts.Need-kind-at-requires (kept-uses t) (kept-at t) kept.Post kept-Inv-loop kept-μ-loop
 kept-kind-at-requires t c κs = search needs
 
-kept-payload-at-requires : (t : ℕ) → kept-lts.Need-payload-at-requires (kept-uses t) (kept-at t) kept.Post
+kept-payload-at-requires : (t : ℕ) → kept-lts.Need-payload-at-requires (kept-uses t) (kept-at t) kept.Post kept-Inv-loop kept-μ-loop
 kept-payload-at-requires t c κs = search needs
 
-kept-put-requires : (t : ℕ) → kept-lts.Need-put-requires (kept-uses t) (kept-at t) kept.Post
+kept-put-requires : (t : ℕ) → kept-lts.Need-put-requires (kept-uses t) (kept-at t) kept.Post kept-Inv-loop kept-μ-loop
 kept-put-requires t c κs =
     let g = c .before .before .before .before .before .before .args in
     let f = c .before .before .before .before .before .before .pre .1 in
     (f .0 .stack, omega (arith, f .0 .fit), kind-small (g .ws .now) (g .at) (c .before .before .kind-at .result) (c .before .before .kind-at .ensures) (omega (arith, c .before .before .before .before .before .shared-slice-known .given (g .at))), c .before .payload-at .ensures .1)
 
-kept-add-records : (t : ℕ) → kept-lts.Need-add-records (kept-uses t) (kept-at t) kept.Post
-kept-add-records t c = omega (arith, c .before .before .before .before .before .before .before .before .before .pre .1 .1, c .before .before .before .before .before .before .before .before .before .pre .1 .0 .ready .few)
+kept-add-q : (t : ℕ) → kept-lts.Need-add-q (kept-uses t) (kept-at t) kept.Post kept-Inv-loop kept-μ-loop
+kept-add-q t c = omega (arith, c .before .before .before .before .before .before .before .before .before .pre .1 .1 .inside, c .before .before .before .before .before .before .before .before .before .pre .1 .0 .ready .few)
 
-kept-children-at-requires : (t : ℕ) → kept-lts.Need-children-at-requires (kept-uses t) (kept-at t) kept.Post
+kept-children-at-requires : (t : ℕ) → kept-lts.Need-children-at-requires (kept-uses t) (kept-at t) kept.Post kept-Inv-loop kept-μ-loop
 kept-children-at-requires t c κs = search needs
 
-kept-records-requires : (t : ℕ) → kept-lts.Need-records-requires (kept-uses t) (kept-at t) kept.Post
-kept-records-requires t c κs =
-    let g = c .before .before .before .before .before .before .before .before .before .before .before .args in
-    let f = c .before .before .before .before .before .before .before .before .before .before .before .pre .1 in
-    let n = c .before .children-at .ensures .0 in (
-      omega (arith, c .before .before .before .before .before .before .before .before .before .before .before .pre .0, f .1),
-      subst (λ (j : ℕ). Asks (g .ws .now) (g .notes .now) (g .at + 1) j (g .s .next) (g .c) (c .before .before .before .before .put .result) (size (hereAt (g .ws .now) (g .at + 1) j (g .a) (g .s)))) (sym n)
-          (asks-kids (f .0) (c .before .before .before .before .put .result) (size (hereAt (g .ws .now) (g .at + 1) (arityAt (g .ws .now) (g .at)) (g .a) (g .s))) refl (f .1) (omega (arith, f .0 .fit, kept-size (g .ws .now) (g .at) (g .a) (g .s) (g .c) (f .1) (f .2), c .before .before .before .before .put .ensures .end))),
-    )
+kept-loop-holds : (t : ℕ) → kept-lts.Need-loop-holds (kept-uses t) (kept-at t) kept.Post kept-Inv-loop kept-μ-loop
+kept-loop-holds t c =
+    let g = c .before .before .before .before .before .before .before .before .before .before .args in
+    let f = c .before .before .before .before .before .before .before .before .before .before .pre .1 in
+    (refl, keeping-start (g .a) (g .s) (f .1) (f .0) (c .before .before .before .put .ensures) (c .children-at .ensures .0) (c .children-at .ensures .1))
 
-kept-same-length : (t : ℕ) → kept-lts.Need-same-length (kept-uses t) (kept-at t) kept.Post
-kept-same-length t c = c .before .before .records .kept .1 .1 .1 .1 .1 .1 .1 .0 ∙ c .before .before .before .before .before .before .before .put .kept .1 .1 .1 .0
+kept-same-length : (t : ℕ) → kept-lts.Need-same-length (kept-uses t) (kept-at t) kept.Post kept-Inv-loop kept-μ-loop
+kept-same-length t c = c .before .before .loop .inv .0 ∙ c .before .before .before .before .before .before .put .kept .1 .1 .1 .0
 
-kept-returns : (t : ℕ) → kept-lts.Need-returns (kept-uses t) (kept-at t) kept.Post
+kept-returns : (t : ℕ) → kept-lts.Need-returns (kept-uses t) (kept-at t) kept.Post kept-Inv-loop kept-μ-loop
 kept-returns t c =
-    let g = c .before .before .before .before .before .before .before .before .before .before .before .before .before .before .args in
-    let f = c .before .before .before .before .before .before .before .before .before .before .before .before .before .before .pre .1 in
-    emit-kept (g .ws .now) (g .at) (g .a) (g .s) (g .c) (f .1) (c .before .before .before .before .before .before .before .before .before .before .kind-at .result) (c .before .before .before .before .before .before .before .before .before .payload-at .result) (c .before .before .before .before .children-at .result) (f .2) (c .before .before .before .before .before .before .before .before .before .before .kind-at .ensures) (c .before .before .before .before .before .before .before .before .before .payload-at .ensures .0) (c .before .before .before .before .children-at .ensures .0) (c .before .before .before .before .before .before .before .put .ensures) (c .before .before .records .ensures)
+    let g = c .before .before .before .before .before .before .before .before .before .before .before .before .before .args in
+    let f = c .before .before .before .before .before .before .before .before .before .before .before .before .before .pre .1 in
+    emit-kept (g .ws .now) (g .at) (g .a) (g .s) (g .c) (f .1) (c .before .before .before .before .before .before .before .before .before .kind-at .result) (c .before .before .before .before .before .before .before .before .payload-at .result) (c .before .before .before .children-at .result) (c .before .before .before .before .before .before .before .before .before .kind-at .ensures) (c .before .before .before .before .before .before .before .before .payload-at .ensures .0) (c .before .before .before .children-at .ensures .0) (c .before .before .before .before .before .before .put .ensures) (keeping-past (c .before .before .loop .inv .1) (c .if1 .taken))
+
+kept-mul-noted : (t : ℕ) → kept-lts.Need-mul-noted (kept-uses t) (kept-at t) kept.Post kept-Inv-loop kept-μ-loop
+kept-mul-noted t c = omega (arith, c .if1 .left, c .before .before .before .before .before .before .before .before .before .before .before .before .before .pre .1 .0 .ready .few)
+
+kept-shared-slice-read-noted : (t : ℕ) → kept-lts.Need-shared-slice-read-noted (kept-uses t) (kept-at t) kept.Post kept-Inv-loop kept-μ-loop
+kept-shared-slice-read-noted t c = omega (arith, c .before .if1 .left, c .before .before .before .before .before .before .before .before .before .before .before .before .before .before .pre .1 .0 .ready .planned .ends .long)
+
+kept-cast-e : (t : ℕ) → kept-lts.Need-cast-e (kept-uses t) (kept-at t) kept.Post kept-Inv-loop kept-μ-loop
+kept-cast-e t c =
+    let g = c .before .before .before .before .before .before .before .before .before .before .before .before .before .before .before .args in
+    let l = c .before .before .before .before .loop in
+    let f = keeping-asks (l .inv .1) (c .before .before .before .loop-test .taken) in
+    omega (arith, note-at _ _ _ (f .noted) (c .before .before .if1 .left) .place, end-high (g .ws .now) (l .q) 1, f .ready .few, f .ready .inside)
+
+kept-copied-requires : (t : ℕ) → kept-lts.Need-copied-requires (kept-uses t) (kept-at t) kept.Post kept-Inv-loop kept-μ-loop
+kept-copied-requires t c κs =
+    let g = c .before .before .before .before .before .before .before .before .before .before .before .before .before .before .before .before .args in
+    let l = c .before .before .before .before .before .loop in
+    let f = keeping-asks (l .inv .1) (c .before .before .before .before .loop-test .taken) in
+    copies (g .a) (record { next = l .n; default = l .d }) f (c .before .before .before .if1 .left) _ (note-at _ _ _ (f .noted) (c .before .before .before .if1 .left)) (eq-eqb _ 1 (c .before .if2 .taken))
+
+kept-sub-k : (t : ℕ) → kept-lts.Need-sub-k (kept-uses t) (kept-at t) kept.Post kept-Inv-loop kept-μ-loop
+kept-sub-k t c = omega (arith, c .before .before .before .before .before .before .before .loop-test .taken)
+
+kept-loop-less : (t : ℕ) → kept-lts.Need-loop-less (kept-uses t) (kept-at t) kept.Post kept-Inv-loop kept-μ-loop
+kept-loop-less t c =
+    let g = c .before .before .before .before .before .before .before .before .before .before .before .before .before .before .before .before .before .before .before .args in
+    let l = c .before .before .before .before .before .before .before .before .loop in
+    let f = keeping-asks (l .inv .1) (c .before .before .before .before .before .before .before .loop-test .taken) in
+    omega (arith, c .before .before .before .before .before .before .if1 .left, note-at _ _ _ (f .noted) (c .before .before .before .before .before .before .if1 .left) .place, end-one (g .ws .now) (l .q) (c .before .before .before .before .before .before .if1 .left), end-low (g .ws .now) (l .q + 1) (arityAt (g .ws .now) (l .q)))
+
+kept-loop-again : (t : ℕ) → kept-lts.Need-loop-again (kept-uses t) (kept-at t) kept.Post kept-Inv-loop kept-μ-loop
+kept-loop-again t c =
+    let g = c .before .before .before .before .before .before .before .before .before .before .before .before .before .before .before .before .before .before .before .args in
+    let l = c .before .before .before .before .before .before .before .before .loop in
+    let f = keeping-asks (l .inv .1) (c .before .before .before .before .before .before .before .loop-test .taken) in
+    let y = copied-emits (g .a) (record { next = l .n; default = l .d }) f (c .before .before .before .before .before .before .if1 .left) _ (note-at _ _ _ (f .noted) (c .before .before .before .before .before .before .if1 .left)) (eq-eqb _ 1 (c .before .before .before .before .if2 .taken)) (c .before .before .copied .ensures) in
+    (c .before .before .copied .kept .1 .1 .1 .1 .0 ∙ l .inv .0, keeping-one (l .inv .1) _ (c .before .before .before .before .before .before .before .loop-test .taken) y refl)
+
+kept-is-kept-requires : (t : ℕ) → kept-lts.Need-is-kept-requires (kept-uses t) (kept-at t) kept.Post kept-Inv-loop kept-μ-loop
+kept-is-kept-requires t c κs =
+    let f = keeping-asks (c .before .before .before .before .loop .inv .1) (c .before .before .before .loop-test .taken) in
+    (f .ready .planned, f .ready .whole, omega (arith, c .before .before .if1 .left))
+
+kept-kind-at-requires-2 : (t : ℕ) → kept-lts.Need-kind-at-requires-2 (kept-uses t) (kept-at t) kept.Post kept-Inv-loop kept-μ-loop
+kept-kind-at-requires-2 t c κs = search needs
+
+kept-payload-at-requires-2 : (t : ℕ) → kept-lts.Need-payload-at-requires-2 (kept-uses t) (kept-at t) kept.Post kept-Inv-loop kept-μ-loop
+kept-payload-at-requires-2 t c κs = search needs
+
+kept-put-requires-2 : (t : ℕ) → kept-lts.Need-put-requires-2 (kept-uses t) (kept-at t) kept.Post kept-Inv-loop kept-μ-loop
+kept-put-requires-2 t c κs =
+    let g = c .before .before .before .before .before .before .before .before .before .before .before .before .before .before .before .before .before .before .before .before .args in
+    let l = c .before .before .before .before .before .before .before .before .before .loop in
+    let f = keeping-asks (l .inv .1) (c .before .before .before .before .before .before .before .before .loop-test .taken) in
+    (f .stack, omega (arith, f .fit), kind-small (g .ws .now) (l .q) (c .before .before .kind-at2 .result) (c .before .before .kind-at2 .ensures) (omega (arith, c .before .before .before .before .before .before .before .before .before .before .before .before .before .before .before .before .before .before .before .shared-slice-known .given (l .q))), c .before .payload-at2 .ensures .1)
+
+kept-sub-k-2 : (t : ℕ) → kept-lts.Need-sub-k-2 (kept-uses t) (kept-at t) kept.Post kept-Inv-loop kept-μ-loop
+kept-sub-k-2 t c = omega (arith, c .before .before .before .before .before .before .before .before .before .before .before .loop-test .taken)
+
+kept-children-at-requires-2 : (t : ℕ) → kept-lts.Need-children-at-requires-2 (kept-uses t) (kept-at t) kept.Post kept-Inv-loop kept-μ-loop
+kept-children-at-requires-2 t c κs = search needs
+
+kept-add-k : (t : ℕ) → kept-lts.Need-add-k (kept-uses t) (kept-at t) kept.Post kept-Inv-loop kept-μ-loop
+kept-add-k t c = omega (arith, c .before .before .before .before .before .before .before .before .before .before .before .before .before .loop .inv .1 .few, c .children-at2 .ensures .1, c .before .before .before .before .before .before .before .before .before .before .before .before .before .before .before .before .before .before .before .before .before .before .before .before .pre .1 .0 .ready .few, c .before .before .before .before .before .before .before .before .before .before .before .if1 .left)
+
+kept-add-q-2 : (t : ℕ) → kept-lts.Need-add-q-2 (kept-uses t) (kept-at t) kept.Post kept-Inv-loop kept-μ-loop
+kept-add-q-2 t c = omega (arith, c .before .before .before .before .before .before .before .before .before .before .before .if1 .left, c .before .before .before .before .before .before .before .before .before .before .before .before .before .before .before .before .before .before .before .before .before .before .before .before .pre .1 .0 .ready .few)
+
+kept-loop-less-2 : (t : ℕ) → kept-lts.Need-loop-less-2 (kept-uses t) (kept-at t) kept.Post kept-Inv-loop kept-μ-loop
+kept-loop-less-2 t c = omega (arith, c .before .before .before .before .before .before .before .before .before .before .before .if1 .left)
+
+kept-loop-again-2 : (t : ℕ) → kept-lts.Need-loop-again-2 (kept-uses t) (kept-at t) kept.Post kept-Inv-loop kept-μ-loop
+kept-loop-again-2 t c =
+    let l = c .before .before .before .before .before .before .before .before .before .before .before .before .before .loop in
+    (c .before .before .before .put2 .kept .1 .1 .1 .0 ∙ l .inv .0, keeping-kept (l .inv .1) (c .before .before .before .before .before .before .before .before .before .before .before .before .loop-test .taken) (c .before .before .before .before .before .before .before .before .is-kept .ensures (c .before .before .before .before .before .before .before .if3 .taken)) (c .before .before .before .before .before .before .kind-at2 .ensures) (c .before .before .before .before .before .payload-at2 .ensures .0) (c .before .before .before .put2 .ensures) (c .children-at2 .ensures .0) (c .children-at2 .ensures .1) refl)
+
+kept-record-requires : (t : ℕ) → kept-lts.Need-record-requires (kept-uses t) (kept-at t) kept.Post kept-Inv-loop kept-μ-loop
+kept-record-requires t c κs =
+    let l = c .before .before .before .before .before .before .before .loop in
+    let f = keeping-asks (l .inv .1) (c .before .before .before .before .before .before .loop-test .taken) in
+    (omega (arith, c .before .before .before .before .before .before .before .before .before .before .before .before .before .before .before .before .before .before .pre .0, l .inv .1 .later, c .before .before .before .before .before .if1 .left), (f, omega (arith, c .before .before .before .before .before .if1 .left)))
+
+kept-sub-k-3 : (t : ℕ) → kept-lts.Need-sub-k-3 (kept-uses t) (kept-at t) kept.Post kept-Inv-loop kept-μ-loop
+kept-sub-k-3 t c = omega (arith, c .before .before .before .before .before .before .before .before .before .loop-test .taken)
+
+kept-loop-less-3 : (t : ℕ) → kept-lts.Need-loop-less-3 (kept-uses t) (kept-at t) kept.Post kept-Inv-loop kept-μ-loop
+kept-loop-less-3 t c =
+    let g = c .before .before .before .before .before .before .before .before .before .before .before .before .before .before .before .before .before .before .before .before .before .args in
+    let l = c .before .before .before .before .before .before .before .before .before .before .loop in
+    omega (arith, c .before .before .before .before .before .before .before .before .if1 .left, c .before .before .«record» .ensures .moved .place, end-one (g .ws .now) (l .q) (omega (arith, c .before .before .before .before .before .before .before .before .if1 .left)), end-low (g .ws .now) (l .q + 1) (arityAt (g .ws .now) (l .q)))
+
+kept-loop-again-3 : (t : ℕ) → kept-lts.Need-loop-again-3 (kept-uses t) (kept-at t) kept.Post kept-Inv-loop kept-μ-loop
+kept-loop-again-3 t c =
+    let l = c .before .before .before .before .before .before .before .before .before .before .loop in
+    (c .before .before .«record» .kept .1 .1 .1 .1 .1 .1 .0 ∙ l .inv .0, keeping-one (l .inv .1) (c .before .before .«record» .result) (c .before .before .before .before .before .before .before .before .before .loop-test .taken) (c .before .before .«record» .ensures) refl)
+
+kept-same-length-2 : (t : ℕ) → kept-lts.Need-same-length-2 (kept-uses t) (kept-at t) kept.Post kept-Inv-loop kept-μ-loop
+kept-same-length-2 t c = c .before .loop .inv .0 ∙ c .before .before .before .before .before .put .kept .1 .1 .1 .0
+
+kept-returns-2 : (t : ℕ) → kept-lts.Need-returns-2 (kept-uses t) (kept-at t) kept.Post kept-Inv-loop kept-μ-loop
+kept-returns-2 t c =
+    let g = c .before .before .before .before .before .before .before .before .before .before .before .before .args in
+    let f = c .before .before .before .before .before .before .before .before .before .before .before .before .pre .1 in
+    emit-kept (g .ws .now) (g .at) (g .a) (g .s) (g .c) (f .1) (c .before .before .before .before .before .before .before .before .kind-at .result) (c .before .before .before .before .before .before .before .payload-at .result) (c .before .before .children-at .result) (c .before .before .before .before .before .before .before .before .kind-at .ensures) (c .before .before .before .before .before .before .before .payload-at .ensures .0) (c .before .before .children-at .ensures .0) (c .before .before .before .before .before .put .ensures) (keeping-all (c .before .loop .inv .1) (omega (arith, c .loop-test .left)))
 
 list-add-records : (t : ℕ) → list-lts.Need-add-records (list-uses t) (list-at t) list.Post
 list-add-records t c = omega (arith, c .before .before .before .pre .1 .1, c .before .before .before .pre .1 .0 .ready .few)
@@ -1637,25 +1745,25 @@ plain-put-requires t c κs =
     let f = c .before .before .before .before .before .before .before .pre .1 in
     (f .0 .stack, omega (arith, f .0 .fit), kind-small (g .ws .now) (g .at) (c .before .before .kind-at .result) (c .before .before .kind-at .ensures) (omega (arith, c .before .before .before .before .before .before .shared-slice-known .given (g .at))), c .before .payload-at .ensures .1)
 
-plain-add-records : (t : ℕ) → plain-lts.Need-add-records (plain-uses t) (plain-at t) plain.Post
-plain-add-records t c = omega (arith, c .before .before .before .before .before .before .before .before .before .before .pre .1 .1, c .before .before .before .before .before .before .before .before .before .before .pre .1 .0 .ready .few)
+plain-add-kept : (t : ℕ) → plain-lts.Need-add-kept (plain-uses t) (plain-at t) plain.Post
+plain-add-kept t c = omega (arith, c .before .before .before .before .before .before .before .before .before .before .pre .1 .1, c .before .before .before .before .before .before .before .before .before .before .pre .1 .0 .ready .few)
 
-plain-records-requires : (t : ℕ) → plain-lts.Need-records-requires (plain-uses t) (plain-at t) plain.Post
-plain-records-requires t c κs =
+plain-kept-requires : (t : ℕ) → plain-lts.Need-kept-requires (plain-uses t) (plain-at t) plain.Post
+plain-kept-requires t c κs =
     let g = c .before .before .before .before .before .before .before .before .before .before .before .args in
     let f = c .before .before .before .before .before .before .before .before .before .before .before .pre .1 in
     let b : Scope = record { live = g .live; id = c .before .before .before .before .before .before .before .class-id .result } in
     let t : Count = record { next = g .s .next; default = 67108864 } in
-    (omega (arith, c .before .before .before .before .before .before .before .before .before .before .before .pre .0, f .1), asks-one (f .0) (class-one (g .ws .now) (f .0 .ready .whole) (g .at) (f .1) (f .2)) (c .before .before .before .put .result) (size (hereAt (g .ws .now) (g .at + 1) 1 b t)) (f .1) (omega (arith, f .0 .fit, class-size (g .ws .now) (g .at) (g .a) (g .s) (g .c) (f .1) (f .0 .ready .whole) (f .2) (g .live) (f .3) (f .4) b refl (c .before .before .before .before .before .before .before .class-id .ensures .0), c .before .before .before .put .ensures .end)))
+    (omega (arith, c .before .before .before .before .before .before .before .before .before .before .before .pre .0, f .1), (asks-one (f .0) (class-one (g .ws .now) (f .0 .ready .whole) (g .at) (f .1) (f .2)) (c .before .before .before .put .result) (size (hereAt (g .ws .now) (g .at + 1) 1 b t)) (f .1) (omega (arith, f .0 .fit, class-size (g .ws .now) (g .at) (g .a) (g .s) (g .c) (f .1) (f .0 .ready .whole) (f .2) (g .live) (f .3) (f .4) b refl (c .before .before .before .before .before .before .before .class-id .ensures .0), c .before .before .before .put .ensures .end)), kept-statement (g .ws .now) (f .0 .ready .whole) (g .at) (f .1) (f .2)))
 
 plain-same-length : (t : ℕ) → plain-lts.Need-same-length (plain-uses t) (plain-at t) plain.Post
-plain-same-length t c = c .before .before .records .kept .1 .1 .1 .1 .1 .1 .1 .0 ∙ c .before .before .before .before .before .before .put .kept .1 .1 .1 .0
+plain-same-length t c = c .before .before .kept .kept .1 .1 .1 .1 .1 .1 .0 ∙ c .before .before .before .before .before .before .put .kept .1 .1 .1 .0
 
 plain-returns : (t : ℕ) → plain-lts.Need-returns (plain-uses t) (plain-at t) plain.Post
 plain-returns t c =
     let g = c .before .before .before .before .before .before .before .before .before .before .before .before .before .before .args in
     let f = c .before .before .before .before .before .before .before .before .before .before .before .before .before .before .pre .1 in
-    emit-class (g .ws .now) (g .at) (g .a) (g .s) (g .c) (f .1) (f .0 .ready .whole) (f .2) (g .live) (f .3) (f .4) (record { live = g .live; id = c .before .before .before .before .before .before .before .before .before .before .class-id .result }) refl (c .before .before .before .before .before .before .before .before .before .before .class-id .ensures .0) (c .before .before .before .before .before .before .before .before .before .kind-at .result) (c .before .before .before .before .before .before .before .before .payload-at .result) (c .before .before .before .before .before .before .before .before .before .kind-at .ensures) (c .before .before .before .before .before .before .before .before .payload-at .ensures .0) (c .before .before .before .before .before .before .put .ensures) (c .before .before .records .ensures)
+    emit-class (g .ws .now) (g .at) (g .a) (g .s) (g .c) (f .1) (f .0 .ready .whole) (f .2) (g .live) (f .3) (f .4) (record { live = g .live; id = c .before .before .before .before .before .before .before .before .before .before .class-id .result }) refl (c .before .before .before .before .before .before .before .before .before .before .class-id .ensures .0) (c .before .before .before .before .before .before .before .before .before .kind-at .result) (c .before .before .before .before .before .before .before .before .payload-at .result) (c .before .before .before .before .before .before .before .before .before .kind-at .ensures) (c .before .before .before .before .before .before .before .before .payload-at .ensures .0) (c .before .before .before .before .before .before .put .ensures) (c .before .before .kept .ensures)
 
 program-add-records : (t : ℕ) → program-lts.Need-add-records (program-uses t) (program-at t) program.Post
 program-add-records t c = omega (arith, c .before .before .before .pre .1 .1, c .before .before .before .pre .1 .0 .ready .few)
@@ -1894,18 +2002,12 @@ record-class-statement-requires t c κs = (omega (arith, c .before .before .befo
 record-expression-requires : (t : ℕ) → record-lts.Need-expression-requires (record-uses t) (record-at t) record.Post
 record-expression-requires t c κs = (omega (arith, c .before .before .before .before .before .before .before .before .pre .0), (c .before .before .before .before .before .before .before .before .pre .1 .0, c .before .before .before .before .before .before .before .before .pre .1 .1, sym (c .before .before .kind-at .ensures) ∙ c .before .match .keys6))
 
-record-word-at-requires : (t : ℕ) → record-lts.Need-word-at-requires (record-uses t) (record-at t) record.Post
-record-word-at-requires t c κs = search needs
-
-record-is-constructor-requires : (t : ℕ) → record-lts.Need-is-constructor-requires (record-uses t) (record-at t) record.Post
-record-is-constructor-requires t c κs = search needs
-
 record-kept-requires : (t : ℕ) → record-lts.Need-kept-requires (record-uses t) (record-at t) record.Post
 record-kept-requires t c κs =
-    let g = c .before .before .before .before .before .before .before .before .before .before .before .args in
-    let k = sym (c .before .before .before .before .before .kind-at .ensures) ∙ c .before .before .before .before .match .keys7 in
-    let b = sym (constructor-at (g .ws .now) (g .at) (c .before .before .before .word-at .result) (c .before .before .before .word-at .ensures)) ∙ sym (c .before .before .is-constructor .ensures) in
-    (omega (arith, c .before .before .before .before .before .before .before .before .before .before .before .pre .0), (c .before .before .before .before .before .before .before .before .before .before .before .pre .1 .0, c .before .before .before .before .before .before .before .before .before .before .before .pre .1 .1, inr (constructor-30 (labelAt (g .ws .now) (g .at)) k (b ∙ c .before .if2 .taken))))
+    let g = c .before .before .before .before .before .before .before .before .before .args in
+    let f = c .before .before .before .before .before .before .before .before .before .pre .1 in
+    let k = sym (c .before .before .before .kind-at .ensures) ∙ c .before .before .match .keys7 in
+    (omega (arith, c .before .before .before .before .before .before .before .before .before .pre .0), (f .0, unmarked-30 (g .ws .now) (g .notes .now) (g .at) (f .1) (f .0 .ready .whole) (f .0 .ready .planned) (c .before .if2 .taken) k))
 
 record-same-length-2 : (t : ℕ) → record-lts.Need-same-length-2 (record-uses t) (record-at t) record.Post
 record-same-length-2 t c = c .before .before .kept .kept .1 .1 .1 .1 .1 .1 .0
@@ -1915,108 +2017,136 @@ record-returns-2 t c = c .before .before .kept .ensures
 
 record-member-requires : (t : ℕ) → record-lts.Need-member-requires (record-uses t) (record-at t) record.Post
 record-member-requires t c κs =
-    let g = c .before .before .before .before .before .before .before .before .before .before .before .args in
-    let f = c .before .before .before .before .before .before .before .before .before .before .before .pre .1 in
-    let k = sym (c .before .before .before .before .before .kind-at .ensures) ∙ c .before .before .before .before .match .keys7 in
-    let b = sym (constructor-at (g .ws .now) (g .at) (c .before .before .before .word-at .result) (c .before .before .before .word-at .ensures)) ∙ sym (c .before .before .is-constructor .ensures) in
-    let m = member-30 (labelAt (g .ws .now) (g .at)) k (b ∙ c .before .if2 .left) in
-    (omega (arith, c .before .before .before .before .before .before .before .before .before .before .before .pre .0), (asks-words (f .0) (g .pos) (length (memberWords (g .ws .now) (g .at) (g .a) (g .s) (g .c))) (omega (arith, f .0 .fit, member-size (g .ws .now) (g .at) (g .a) (g .s) (g .c) (f .1) (f .0 .ready .whole) m)), f .1, ap isElementKind k ∙ (unfold isElementKind in refl)))
-
-record-member-requires-2 : (t : ℕ) → record-lts.Need-member-requires-2 (record-uses t) (record-at t) record.Post
-record-member-requires-2 t c κs =
-    let g = c .before .before .before .before .before .before .before .before .args in
-    let f = c .before .before .before .before .before .before .before .before .pre .1 in
-    let k = sym (c .before .before .kind-at .ensures) ∙ c .before .match .keys8 in
-    let m = member-31 (labelAt (g .ws .now) (g .at)) k in
-    (omega (arith, c .before .before .before .before .before .before .before .before .pre .0), (asks-words (f .0) (g .pos) (length (memberWords (g .ws .now) (g .at) (g .a) (g .s) (g .c))) (omega (arith, f .0 .fit, member-size (g .ws .now) (g .at) (g .a) (g .s) (g .c) (f .1) (f .0 .ready .whole) m)), f .1, ap isElementKind k ∙ (unfold isElementKind in refl)))
-
-record-member-requires-3 : (t : ℕ) → record-lts.Need-member-requires-3 (record-uses t) (record-at t) record.Post
-record-member-requires-3 t c κs =
-    let g = c .before .before .before .before .before .before .before .before .args in
-    let f = c .before .before .before .before .before .before .before .before .pre .1 in
-    let k = sym (c .before .before .kind-at .ensures) ∙ c .before .match .keys9 in
-    let m = member-32 (labelAt (g .ws .now) (g .at)) k in
-    (omega (arith, c .before .before .before .before .before .before .before .before .pre .0), (asks-words (f .0) (g .pos) (length (memberWords (g .ws .now) (g .at) (g .a) (g .s) (g .c))) (omega (arith, f .0 .fit, member-size (g .ws .now) (g .at) (g .a) (g .s) (g .c) (f .1) (f .0 .ready .whole) m)), f .1, ap isElementKind k ∙ (unfold isElementKind in refl)))
+    let g = c .before .before .before .before .before .before .before .before .before .args in
+    let f = c .before .before .before .before .before .before .before .before .before .pre .1 in
+    let k = sym (c .before .before .before .kind-at .ensures) ∙ c .before .before .match .keys7 in
+    let m = marked-member (g .ws .now) (g .notes .now) (g .at) (f .1) (f .0 .ready .planned) 30 k (λ e. omega arith) (λ e. omega arith) (λ e. omega arith) (λ e. omega arith) (c .before .if2 .left) in
+    (omega (arith, c .before .before .before .before .before .before .before .before .before .pre .0), (asks-words (f .0) (g .pos) (length (memberWords (g .ws .now) (g .at) (g .a) (g .s) (g .c))) (omega (arith, f .0 .fit, member-size (g .ws .now) (g .at) (g .a) (g .s) (g .c) (f .1) (f .0 .ready .whole) m)), f .1, ap isElementKind k ∙ (unfold isElementKind in refl)))
 
 record-kept-requires-2 : (t : ℕ) → record-lts.Need-kept-requires-2 (record-uses t) (record-at t) record.Post
 record-kept-requires-2 t c κs =
-    let g = c .before .before .before .before .before .before .before .before .args in
-    let k = c .before .before .kind-at .ensures in
-    let m = c .before .match .rest in
-    (omega (arith, c .before .before .before .before .before .before .before .before .pre .0), (c .before .before .before .before .before .before .before .before .pre .1 .0, c .before .before .before .before .before .before .before .before .pre .1 .1, inl (plain-rest (labelAt (g .ws .now) (g .at)) (λ e. m .0 .0 .0 .0 .0 .0 .0 .0 .1 (k ∙ e)) (λ e. m .0 .0 .0 .0 .0 .0 .0 .1 (k ∙ e)) (λ e. m .0 .0 .0 .0 .0 .0 .1 (k ∙ e)) (λ e. m .0 .0 .0 .0 .0 .1 (k ∙ e)) (λ e. m .0 .0 .0 .0 .1 (k ∙ e)) (λ e. m .0 .0 .0 .1 (k ∙ e)) (λ e. m .0 .0 .1 (k ∙ e)) (λ e. m .0 .1 (k ∙ e)) (λ e. m .1 (k ∙ e)))))
+    let g = c .before .before .before .before .before .before .before .before .before .args in
+    let f = c .before .before .before .before .before .before .before .before .before .pre .1 in
+    let k = sym (c .before .before .before .kind-at .ensures) ∙ c .before .before .match .keys8 in
+    (omega (arith, c .before .before .before .before .before .before .before .before .before .pre .0), (f .0, unmarked-31 (g .ws .now) (g .notes .now) (g .at) (f .1) (f .0 .ready .whole) (f .0 .ready .planned) (c .before .if3 .taken) k))
 
 record-same-length-3 : (t : ℕ) → record-lts.Need-same-length-3 (record-uses t) (record-at t) record.Post
-record-same-length-3 t c = c .before .before .program .kept .1 .1 .1 .1 .1 .1 .0
+record-same-length-3 t c = c .before .before .kept2 .kept .1 .1 .1 .1 .1 .1 .0
 
 record-returns-3 : (t : ℕ) → record-lts.Need-returns-3 (record-uses t) (record-at t) record.Post
-record-returns-3 t c = c .before .before .program .ensures
+record-returns-3 t c = c .before .before .kept2 .ensures
+
+record-member-requires-2 : (t : ℕ) → record-lts.Need-member-requires-2 (record-uses t) (record-at t) record.Post
+record-member-requires-2 t c κs =
+    let g = c .before .before .before .before .before .before .before .before .before .args in
+    let f = c .before .before .before .before .before .before .before .before .before .pre .1 in
+    let k = sym (c .before .before .before .kind-at .ensures) ∙ c .before .before .match .keys8 in
+    let m = marked-member (g .ws .now) (g .notes .now) (g .at) (f .1) (f .0 .ready .planned) 31 k (λ e. omega arith) (λ e. omega arith) (λ e. omega arith) (λ e. omega arith) (c .before .if3 .left) in
+    (omega (arith, c .before .before .before .before .before .before .before .before .before .pre .0), (asks-words (f .0) (g .pos) (length (memberWords (g .ws .now) (g .at) (g .a) (g .s) (g .c))) (omega (arith, f .0 .fit, member-size (g .ws .now) (g .at) (g .a) (g .s) (g .c) (f .1) (f .0 .ready .whole) m)), f .1, ap isElementKind k ∙ (unfold isElementKind in refl)))
+
+record-kept-requires-3 : (t : ℕ) → record-lts.Need-kept-requires-3 (record-uses t) (record-at t) record.Post
+record-kept-requires-3 t c κs =
+    let g = c .before .before .before .before .before .before .before .before .before .args in
+    let f = c .before .before .before .before .before .before .before .before .before .pre .1 in
+    let k = sym (c .before .before .before .kind-at .ensures) ∙ c .before .before .match .keys9 in
+    (omega (arith, c .before .before .before .before .before .before .before .before .before .pre .0), (f .0, unmarked-32 (g .ws .now) (g .notes .now) (g .at) (f .1) (f .0 .ready .whole) (f .0 .ready .planned) (c .before .if4 .taken) k))
 
 record-same-length-4 : (t : ℕ) → record-lts.Need-same-length-4 (record-uses t) (record-at t) record.Post
-record-same-length-4 t c = c .before .before .list .kept .1 .1 .1 .1 .1 .1 .0
+record-same-length-4 t c = c .before .before .kept3 .kept .1 .1 .1 .1 .1 .1 .0
 
 record-returns-4 : (t : ℕ) → record-lts.Need-returns-4 (record-uses t) (record-at t) record.Post
-record-returns-4 t c = c .before .before .list .ensures
+record-returns-4 t c = c .before .before .kept3 .ensures
+
+record-member-requires-3 : (t : ℕ) → record-lts.Need-member-requires-3 (record-uses t) (record-at t) record.Post
+record-member-requires-3 t c κs =
+    let g = c .before .before .before .before .before .before .before .before .before .args in
+    let f = c .before .before .before .before .before .before .before .before .before .pre .1 in
+    let k = sym (c .before .before .before .kind-at .ensures) ∙ c .before .before .match .keys9 in
+    let m = marked-member (g .ws .now) (g .notes .now) (g .at) (f .1) (f .0 .ready .planned) 32 k (λ e. omega arith) (λ e. omega arith) (λ e. omega arith) (λ e. omega arith) (c .before .if4 .left) in
+    (omega (arith, c .before .before .before .before .before .before .before .before .before .pre .0), (asks-words (f .0) (g .pos) (length (memberWords (g .ws .now) (g .at) (g .a) (g .s) (g .c))) (omega (arith, f .0 .fit, member-size (g .ws .now) (g .at) (g .a) (g .s) (g .c) (f .1) (f .0 .ready .whole) m)), f .1, ap isElementKind k ∙ (unfold isElementKind in refl)))
+
+record-kept-requires-4 : (t : ℕ) → record-lts.Need-kept-requires-4 (record-uses t) (record-at t) record.Post
+record-kept-requires-4 t c κs =
+    let g = c .before .before .before .before .before .before .before .before .args in
+    let f = c .before .before .before .before .before .before .before .before .pre .1 in
+    let k = c .before .before .kind-at .ensures in
+    let m = c .before .match .rest in
+    (omega (arith, c .before .before .before .before .before .before .before .before .pre .0), (f .0, kept-plain (g .ws .now) (g .at) (f .1) (plain-rest (labelAt (g .ws .now) (g .at)) (λ e. m .0 .0 .0 .0 .0 .0 .0 .0 .1 (k ∙ e)) (λ e. m .0 .0 .0 .0 .0 .0 .0 .1 (k ∙ e)) (λ e. m .0 .0 .0 .0 .0 .0 .1 (k ∙ e)) (λ e. m .0 .0 .0 .0 .0 .1 (k ∙ e)) (λ e. m .0 .0 .0 .0 .1 (k ∙ e)) (λ e. m .0 .0 .0 .1 (k ∙ e)) (λ e. m .0 .0 .1 (k ∙ e)) (λ e. m .0 .1 (k ∙ e)) (λ e. m .1 (k ∙ e)))))
 
 record-same-length-5 : (t : ℕ) → record-lts.Need-same-length-5 (record-uses t) (record-at t) record.Post
-record-same-length-5 t c = c .before .before .list2 .kept .1 .1 .1 .1 .1 .1 .0
+record-same-length-5 t c = c .before .before .program .kept .1 .1 .1 .1 .1 .1 .0
 
 record-returns-5 : (t : ℕ) → record-lts.Need-returns-5 (record-uses t) (record-at t) record.Post
-record-returns-5 t c = c .before .before .list2 .ensures
+record-returns-5 t c = c .before .before .program .ensures
 
 record-same-length-6 : (t : ℕ) → record-lts.Need-same-length-6 (record-uses t) (record-at t) record.Post
-record-same-length-6 t c = c .before .before .list3 .kept .1 .1 .1 .1 .1 .1 .0
+record-same-length-6 t c = c .before .before .list .kept .1 .1 .1 .1 .1 .1 .0
 
 record-returns-6 : (t : ℕ) → record-lts.Need-returns-6 (record-uses t) (record-at t) record.Post
-record-returns-6 t c = c .before .before .list3 .ensures
+record-returns-6 t c = c .before .before .list .ensures
 
 record-same-length-7 : (t : ℕ) → record-lts.Need-same-length-7 (record-uses t) (record-at t) record.Post
-record-same-length-7 t c = c .before .before .class-statement .kept .1 .1 .1 .1 .1 .1 .0
+record-same-length-7 t c = c .before .before .list2 .kept .1 .1 .1 .1 .1 .1 .0
 
 record-returns-7 : (t : ℕ) → record-lts.Need-returns-7 (record-uses t) (record-at t) record.Post
-record-returns-7 t c = c .before .before .class-statement .ensures
+record-returns-7 t c = c .before .before .list2 .ensures
 
 record-same-length-8 : (t : ℕ) → record-lts.Need-same-length-8 (record-uses t) (record-at t) record.Post
-record-same-length-8 t c = c .before .before .expression .kept .1 .1 .1 .1 .1 .1 .0
+record-same-length-8 t c = c .before .before .list3 .kept .1 .1 .1 .1 .1 .1 .0
 
 record-returns-8 : (t : ℕ) → record-lts.Need-returns-8 (record-uses t) (record-at t) record.Post
-record-returns-8 t c = c .before .before .expression .ensures
+record-returns-8 t c = c .before .before .list3 .ensures
 
 record-same-length-9 : (t : ℕ) → record-lts.Need-same-length-9 (record-uses t) (record-at t) record.Post
-record-same-length-9 t c = c .before .before .member .kept .1 .1 .1 .1 .1 .1 .0
+record-same-length-9 t c = c .before .before .class-statement .kept .1 .1 .1 .1 .1 .1 .0
 
 record-returns-9 : (t : ℕ) → record-lts.Need-returns-9 (record-uses t) (record-at t) record.Post
-record-returns-9 t c =
-    let g = c .before .before .before .before .before .before .before .before .before .before .before .before .before .before .args in
-    let f = c .before .before .before .before .before .before .before .before .before .before .before .before .before .before .pre .1 in
-    let k = sym (c .before .before .before .before .before .before .before .before .kind-at .ensures) ∙ c .before .before .before .before .before .before .before .match .keys7 in
-    let b = sym (constructor-at (g .ws .now) (g .at) (c .before .before .before .before .before .before .word-at .result) (c .before .before .before .before .before .before .word-at .ensures)) ∙ sym (c .before .before .before .before .before .is-constructor .ensures) in
-    emit-member (g .ws .now) (g .at) (g .a) (g .s) (g .c) (f .1) (f .0 .ready .whole) (member-30 (labelAt (g .ws .now) (g .at)) k (b ∙ c .before .before .before .before .if2 .left)) (c .before .before .member .ensures .0) (c .before .before .member .ensures .1)
+record-returns-9 t c = c .before .before .class-statement .ensures
 
 record-same-length-10 : (t : ℕ) → record-lts.Need-same-length-10 (record-uses t) (record-at t) record.Post
-record-same-length-10 t c = c .before .before .member2 .kept .1 .1 .1 .1 .1 .1 .0
+record-same-length-10 t c = c .before .before .expression .kept .1 .1 .1 .1 .1 .1 .0
 
 record-returns-10 : (t : ℕ) → record-lts.Need-returns-10 (record-uses t) (record-at t) record.Post
-record-returns-10 t c =
-    let g = c .before .before .before .before .before .before .before .before .before .before .before .args in
-    let f = c .before .before .before .before .before .before .before .before .before .before .before .pre .1 in
-    let k = sym (c .before .before .before .before .before .kind-at .ensures) ∙ c .before .before .before .before .match .keys8 in
-    emit-member (g .ws .now) (g .at) (g .a) (g .s) (g .c) (f .1) (f .0 .ready .whole) (member-31 (labelAt (g .ws .now) (g .at)) k) (c .before .before .member2 .ensures .0) (c .before .before .member2 .ensures .1)
+record-returns-10 t c = c .before .before .expression .ensures
 
 record-same-length-11 : (t : ℕ) → record-lts.Need-same-length-11 (record-uses t) (record-at t) record.Post
-record-same-length-11 t c = c .before .before .member3 .kept .1 .1 .1 .1 .1 .1 .0
+record-same-length-11 t c = c .before .before .member .kept .1 .1 .1 .1 .1 .1 .0
 
 record-returns-11 : (t : ℕ) → record-lts.Need-returns-11 (record-uses t) (record-at t) record.Post
 record-returns-11 t c =
-    let g = c .before .before .before .before .before .before .before .before .before .before .before .args in
-    let f = c .before .before .before .before .before .before .before .before .before .before .before .pre .1 in
-    let k = sym (c .before .before .before .before .before .kind-at .ensures) ∙ c .before .before .before .before .match .keys9 in
-    emit-member (g .ws .now) (g .at) (g .a) (g .s) (g .c) (f .1) (f .0 .ready .whole) (member-32 (labelAt (g .ws .now) (g .at)) k) (c .before .before .member3 .ensures .0) (c .before .before .member3 .ensures .1)
+    let g = c .before .before .before .before .before .before .before .before .before .before .before .before .args in
+    let f = c .before .before .before .before .before .before .before .before .before .before .before .before .pre .1 in
+    let k = sym (c .before .before .before .before .before .before .kind-at .ensures) ∙ c .before .before .before .before .before .match .keys7 in
+    let m = marked-member (g .ws .now) (g .notes .now) (g .at) (f .1) (f .0 .ready .planned) 30 k (λ e. omega arith) (λ e. omega arith) (λ e. omega arith) (λ e. omega arith) (c .before .before .before .before .if2 .left) in
+    emit-member (g .ws .now) (g .at) (g .a) (g .s) (g .c) (f .1) (f .0 .ready .whole) m (c .before .before .member .ensures .0) (c .before .before .member .ensures .1)
 
 record-same-length-12 : (t : ℕ) → record-lts.Need-same-length-12 (record-uses t) (record-at t) record.Post
-record-same-length-12 t c = c .before .before .kept2 .kept .1 .1 .1 .1 .1 .1 .0
+record-same-length-12 t c = c .before .before .member2 .kept .1 .1 .1 .1 .1 .1 .0
 
 record-returns-12 : (t : ℕ) → record-lts.Need-returns-12 (record-uses t) (record-at t) record.Post
-record-returns-12 t c = c .before .before .kept2 .ensures
+record-returns-12 t c =
+    let g = c .before .before .before .before .before .before .before .before .before .before .before .before .args in
+    let f = c .before .before .before .before .before .before .before .before .before .before .before .before .pre .1 in
+    let k = sym (c .before .before .before .before .before .before .kind-at .ensures) ∙ c .before .before .before .before .before .match .keys8 in
+    let m = marked-member (g .ws .now) (g .notes .now) (g .at) (f .1) (f .0 .ready .planned) 31 k (λ e. omega arith) (λ e. omega arith) (λ e. omega arith) (λ e. omega arith) (c .before .before .before .before .if3 .left) in
+    emit-member (g .ws .now) (g .at) (g .a) (g .s) (g .c) (f .1) (f .0 .ready .whole) m (c .before .before .member2 .ensures .0) (c .before .before .member2 .ensures .1)
+
+record-same-length-13 : (t : ℕ) → record-lts.Need-same-length-13 (record-uses t) (record-at t) record.Post
+record-same-length-13 t c = c .before .before .member3 .kept .1 .1 .1 .1 .1 .1 .0
+
+record-returns-13 : (t : ℕ) → record-lts.Need-returns-13 (record-uses t) (record-at t) record.Post
+record-returns-13 t c =
+    let g = c .before .before .before .before .before .before .before .before .before .before .before .before .args in
+    let f = c .before .before .before .before .before .before .before .before .before .before .before .before .pre .1 in
+    let k = sym (c .before .before .before .before .before .before .kind-at .ensures) ∙ c .before .before .before .before .before .match .keys9 in
+    let m = marked-member (g .ws .now) (g .notes .now) (g .at) (f .1) (f .0 .ready .planned) 32 k (λ e. omega arith) (λ e. omega arith) (λ e. omega arith) (λ e. omega arith) (c .before .before .before .before .if4 .left) in
+    emit-member (g .ws .now) (g .at) (g .a) (g .s) (g .c) (f .1) (f .0 .ready .whole) m (c .before .before .member3 .ensures .0) (c .before .before .member3 .ensures .1)
+
+record-same-length-14 : (t : ℕ) → record-lts.Need-same-length-14 (record-uses t) (record-at t) record.Post
+record-same-length-14 t c = c .before .before .kept4 .kept .1 .1 .1 .1 .1 .1 .0
+
+record-returns-14 : (t : ℕ) → record-lts.Need-returns-14 (record-uses t) (record-at t) record.Post
+record-returns-14 t c = c .before .before .kept4 .ensures
 
 abbrev records-Inv-loop : records-lts.InvT-loop
 records-Inv-loop ws notes at k a c out₀ pos q₀ i₀ p₀ n₀ d₀ m₀ out q i p n d m = (q ≤ length ws) × (i ≤ k) × (length out ≡ length out₀) × Emitted ws at i a (record { next = n₀; default = d₀ }) c out₀ pos out (record { at = q; pos = p; next = n; default = d; count = m })
@@ -2525,8 +2655,8 @@ pub +bare+call+calls+class-body+class-statement+create-assignment+elements+entri
     (expression-kind-at-requires t)
     (expression-payload-at-requires t)
     (expression-put-requires t)
-    (expression-add-records t)
-    (expression-records-requires t)
+    (expression-add-kept t)
+    (expression-kept-requires t)
     (expression-same-length t)
     (expression-returns t))
     (λ t. first-entries-lts.spec (first-entries-uses t) (first-entries-at t)
@@ -2561,14 +2691,39 @@ pub +bare+call+calls+class-body+class-statement+create-assignment+elements+entri
     (indexed-returns t))
     (λ t. kept-lts.spec (kept-uses t) (kept-at t)
     kept.Post
+    kept-Inv-loop
+    kept-μ-loop
     (kept-kind-at-requires t)
     (kept-payload-at-requires t)
     (kept-put-requires t)
-    (kept-add-records t)
+    (kept-add-q t)
     (kept-children-at-requires t)
-    (kept-records-requires t)
+    (kept-loop-holds t)
     (kept-same-length t)
-    (kept-returns t))
+    (kept-returns t)
+    (kept-mul-noted t)
+    (kept-shared-slice-read-noted t)
+    (kept-cast-e t)
+    (kept-copied-requires t)
+    (kept-sub-k t)
+    (kept-loop-less t)
+    (kept-loop-again t)
+    (kept-is-kept-requires t)
+    (kept-kind-at-requires-2 t)
+    (kept-payload-at-requires-2 t)
+    (kept-put-requires-2 t)
+    (kept-sub-k-2 t)
+    (kept-children-at-requires-2 t)
+    (kept-add-k t)
+    (kept-add-q-2 t)
+    (kept-loop-less-2 t)
+    (kept-loop-again-2 t)
+    (kept-record-requires t)
+    (kept-sub-k-3 t)
+    (kept-loop-less-3 t)
+    (kept-loop-again-3 t)
+    (kept-same-length-2 t)
+    (kept-returns-2 t))
     (λ t. list-lts.spec (list-uses t) (list-at t)
     list.Post
     (list-add-records t)
@@ -2649,8 +2804,8 @@ pub +bare+call+calls+class-body+class-statement+create-assignment+elements+entri
     (plain-kind-at-requires t)
     (plain-payload-at-requires t)
     (plain-put-requires t)
-    (plain-add-records t)
-    (plain-records-requires t)
+    (plain-add-kept t)
+    (plain-kept-requires t)
     (plain-same-length t)
     (plain-returns t))
     (λ t. program-lts.spec (program-uses t) (program-at t)
@@ -2701,19 +2856,19 @@ pub +bare+call+calls+class-body+class-statement+create-assignment+elements+entri
     (record-list-requires-3 t)
     (record-class-statement-requires t)
     (record-expression-requires t)
-    (record-word-at-requires t)
-    (record-is-constructor-requires t)
     (record-kept-requires t)
     (record-same-length-2 t)
     (record-returns-2 t)
     (record-member-requires t)
-    (record-member-requires-2 t)
-    (record-member-requires-3 t)
     (record-kept-requires-2 t)
     (record-same-length-3 t)
     (record-returns-3 t)
+    (record-member-requires-2 t)
+    (record-kept-requires-3 t)
     (record-same-length-4 t)
     (record-returns-4 t)
+    (record-member-requires-3 t)
+    (record-kept-requires-4 t)
     (record-same-length-5 t)
     (record-returns-5 t)
     (record-same-length-6 t)
@@ -2729,7 +2884,11 @@ pub +bare+call+calls+class-body+class-statement+create-assignment+elements+entri
     (record-same-length-11 t)
     (record-returns-11 t)
     (record-same-length-12 t)
-    (record-returns-12 t))
+    (record-returns-12 t)
+    (record-same-length-13 t)
+    (record-returns-13 t)
+    (record-same-length-14 t)
+    (record-returns-14 t))
     (λ t. records-lts.spec (records-uses t) (records-at t)
     records.Post
     records-Inv-loop
