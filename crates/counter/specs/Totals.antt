@@ -20,9 +20,9 @@ use Rattle.walk_laws.specs.Rows.{one-after, kids-visit}
 use Rattle.walk_laws.specs.After.{keyAfter, memberAfter, classAfter, decoratedAfter, aliasAfter, defaultAfter}
 use Rattle.walk_laws.specs.Kinds.{isElementKind, element-after}
 use Rattle.walk_laws.specs.Quiet.{hasClass}
-use Rattle.walk_laws.specs.Still.{changes}
+use Rattle.walk_laws.specs.Still.{changes, still-after}
 use Rattle.walk_laws.specs.Around.{kids-same, after-same}
-use Rattle.counter.specs.Contract.{aroundOf, stateOf, markIn, isWalked, unlive, Planned, Ready, Counts, Free, Noted, Annotated, Walks, hasDefault, defaultFrom, Near, FromAny, Totals, keyCount, classCount}
+use Rattle.counter.specs.Contract.{aroundOf, stateOf, markIn, stillIn, isWalked, unlive, Planned, Ready, Counts, Free, Noted, Annotated, Walks, hasDefault, defaultFrom, Near, FromAny, Totals, keyCount, classCount}
 use Rattle.counter.specs.Steps.{counts-on, counts-low, counts-high, counts-within, below-more, ready-on, count-none, count-past, count-add, count-other, count-plain, count-member, taken-id, taken-default, taken-fresh}
 use Rattle.counter.specs.declared.Scope.{Scope}
 use Rattle.counter.specs.declared.Counted.{Counted}
@@ -292,6 +292,22 @@ module _ {ws notes : List ℕ} {at : ℕ} (w : Walks ws notes at) (h : at < leng
   -- where the class around isn't live, the note says all
   pub total-dead : a .live ≡ false → Totals ws at 1 a has (record { at = x / 65536; count = x / 4 % 16384; default = 67108864 })
   total-dead e = total-by λ b n d f l. t .count b n d (l ∙ e) f
+
+  -- where nothing in it changes, it takes no symbol in any class
+  pub total-still : stillIn x ≡ true → Totals ws at 1 a has (record { at = x / 65536; count = 0; default = 67108864 })
+  total-still e =
+      let all : FromAny ws at 1 a has (x / 65536) 0 67108864 = λ b n d f l v.
+      counts-same (kept b n d) refl (add-zero n) (from-none 67108864 n d refl) in
+      record {
+        place = t .place;
+        low = inl refl;
+        dead = λ v. refl;
+        few = few-of w {k = 1} {a = a} has (x / 65536) 0 67108864 all;
+        after = all;
+      }
+    where
+      kept : (b : Scope) (n d : ℕ) → Counts ws at 1 b n d (record { at = x / 65536; next = n; default = d })
+      kept b n d = record { place = t .place; state = still-after ws (w .ready .whole) at h (t .still e) (aroundOf b) (stateOf n d) }
 
   unlive-dead : aroundOf unlive .live ≡ false
   unfolding aroundOf

@@ -80,7 +80,7 @@ fn default_from(o: u32, n: u32, d: u32) -> u32
     n + o
 }
 
-// The k records at `at`; has: the class around has its default symbol.
+// The k records at `at`; has: the class around has its default symbol. A record in which nothing changes takes no symbol.
 pub fn total_records(ws: &[u32], notes: &[u32], at: usize, k: usize, a: Scope, has: bool) -> Total
     requires { ⌜ Walks (now ws) (now notes) at ⌝ }
     ensures { λ r. ⌜ Totals (now (ws .entry)) at k a has r ⌝ }
@@ -96,6 +96,12 @@ pub fn total_records(ws: &[u32], notes: &[u32], at: usize, k: usize, a: Scope, h
                 count: n,
                 default: d,
             };
+        }
+        let w = notes[q];
+        if w / 2 % 2 == 1 {
+            q = (w / 65536) as usize;
+            i += 1;
+            continue;
         }
         let r = total_record(ws, notes, q, a, has_default(has, d));
         d = default_from(r.default, n, d);

@@ -1,13 +1,13 @@
--- `total_record` and `total_records`: the measure is the number of words left; the invariant is the answer for the records passed.
+-- `total_record` and `total_records`: the measure is the number of words left; the invariant is the answer for the records passed, of which the still ones take nothing.
 use mathlib.Core.Bool.{Bool, _||_}
 use mathlib.Core.Path.{_≡_, refl, ap, sym, subst, _∙_}
 use Prim.Native.Nat.{_+_, _*_, _-_, _≤_}
 use native.Mathlib.Omega.{arith}
 use borrow.Author.Needs.{needs}
-use borrow.Author.Tests.{not-true, not-false}
+use borrow.Author.Tests.{eq-eqb, not-true, not-false}
 use lib.ListN.{length}
 use Rattle.counter.specs.Contract.{Totals, isWalked, defaultFrom, hasDefault}
-use Rattle.counter.specs.Totals.{kinds-apart, total-same, note-at, total-dead, total-other, total-none, total-past, total-add, near-total, walks-on, walks-next, totals-on, totals-few, Follows, follows, from-none}
+use Rattle.counter.specs.Totals.{kinds-apart, total-same, note-at, total-dead, total-still, total-other, total-none, total-past, total-add, near-total, walks-on, walks-next, totals-on, totals-few, Follows, follows, from-none}
 use Prim.Native.Nat.{ℕ, _<_}
 use borrow.Fn.Kinds.{In}
 use borrow.Fn.PlainCycle.{Measures, is, falls, and}
@@ -128,26 +128,14 @@ total-records-returns t c =
     let e : l .i + (g .k - l .i) ≡ g .k = omega (arith, l .inv .1) in
     total-same _ (subst (λ (j : ℕ). Totals (g .ws .now) (g .at) j (g .a) (g .has) (record { at = l .q; count = l .n + 0; default = defaultFrom 67108864 (l .n) (l .d) })) e t) refl (omega arith) (sym (from-none 67108864 (l .n) (l .d) refl))
 
-total-records-has-default-requires : (t : ℕ) → total-records-lts.Need-has-default-requires (total-records-uses t) (total-records-at t) total-records.Post total-records-Inv-loop total-records-μ-loop
-total-records-has-default-requires t c κs = search needs
+total-records-mul-w : (t : ℕ) → total-records-lts.Need-mul-w (total-records-uses t) (total-records-at t) total-records.Post total-records-Inv-loop total-records-μ-loop
+total-records-mul-w t c = omega (arith, c .if1 .left, c .before .before .before .before .before .pre .1 .ready .few)
 
-total-records-total-record-requires : (t : ℕ) → total-records-lts.Need-total-record-requires (total-records-uses t) (total-records-at t) total-records.Post total-records-Inv-loop total-records-μ-loop
-total-records-total-record-requires t c κs =
-    let l = c .before .before .before .loop in
-    let o = totals-on (c .before .before .before .before .before .before .pre .1) (l .inv .2) in
-    (omega (arith, c .before .before .before .before .before .before .pre .0, o .0, c .before .if1 .left), (walks-on (c .before .before .before .before .before .before .pre .1) (l .q) (o .0) (l .inv .0), c .before .if1 .left))
+total-records-shared-slice-read-w : (t : ℕ) → total-records-lts.Need-shared-slice-read-w (total-records-uses t) (total-records-at t) total-records.Post total-records-Inv-loop total-records-μ-loop
+total-records-shared-slice-read-w t c = omega (arith, c .before .before .before .before .before .before .pre .1 .ready .planned .ends .long, c .before .if1 .left)
 
-total-records-default-from-requires : (t : ℕ) → total-records-lts.Need-default-from-requires (total-records-uses t) (total-records-at t) total-records.Post total-records-Inv-loop total-records-μ-loop
-total-records-default-from-requires t c κs =
-    let g = c .before .before .before .before .before .before .before .args in
-    let l = c .before .before .before .before .loop in
-    near-total (c .before .before .before .before .before .before .before .pre .1) (l .inv .2) (c .total-record .ensures) (subst (λ (b : Bool). Follows (g .has) (l .d) b) (sym (c .before .has-default .ensures)) (follows (g .has) (l .d)))
-
-total-records-add-n : (t : ℕ) → total-records-lts.Need-add-n (total-records-uses t) (total-records-at t) total-records.Post total-records-Inv-loop total-records-μ-loop
-total-records-add-n t c =
-    let l = c .before .before .before .before .before .before .loop in
-    let w = walks-on (c .before .before .before .before .before .before .before .before .before .pre .1) (l .q) (totals-on (c .before .before .before .before .before .before .before .before .before .pre .1) (l .inv .2) .0) (l .inv .0) in
-    omega (arith, totals-few (c .before .before .before .before .before .before .before .before .before .pre .1) (l .inv .2), totals-few w (c .before .before .total-record .ensures))
+total-records-cast-q : (t : ℕ) → total-records-lts.Need-cast-q (total-records-uses t) (total-records-at t) total-records.Post total-records-Inv-loop total-records-μ-loop
+total-records-cast-q t c = omega (arith, c .before .shared-slice-known3 .given (c .before .before .before .before .loop .q))
 
 total-records-add-i : (t : ℕ) → total-records-lts.Need-add-i (total-records-uses t) (total-records-at t) total-records.Post total-records-Inv-loop total-records-μ-loop
 total-records-add-i t c = omega arith
@@ -157,10 +145,47 @@ total-records-loop-less t c = omega arith
 
 total-records-loop-again : (t : ℕ) → total-records-lts.Need-loop-again (total-records-uses t) (total-records-at t) total-records.Post total-records-Inv-loop total-records-μ-loop
 total-records-loop-again t c =
+    let g = c .before .before .before .before .before .before .before .args in
+    let l = c .before .before .before .before .loop in
+    let p = c .before .before .before .before .before .before .before .pre .1 in
+    let w = walks-on p (l .q) (totals-on p (l .inv .2) .0) (l .inv .0) in
+    let s = total-still w (c .before .before .if1 .left) (g .a) (hasDefault (l .d) || g .has) _ (note-at _ _ _ (w .noted) (c .before .before .if1 .left)) (eq-eqb _ 1 (c .if2 .taken)) in
+    let t = total-add p (l .inv .2) s (follows (g .has) (l .d)) in
+    (totals-on w s .1, omega arith, total-same _ t refl (omega arith) (sym (from-none 67108864 (l .n) (l .d) refl)))
+
+total-records-has-default-requires : (t : ℕ) → total-records-lts.Need-has-default-requires (total-records-uses t) (total-records-at t) total-records.Post total-records-Inv-loop total-records-μ-loop
+total-records-has-default-requires t c κs = search needs
+
+total-records-total-record-requires : (t : ℕ) → total-records-lts.Need-total-record-requires (total-records-uses t) (total-records-at t) total-records.Post total-records-Inv-loop total-records-μ-loop
+total-records-total-record-requires t c κs =
+    let l = c .before .before .before .before .before .loop in
+    let o = totals-on (c .before .before .before .before .before .before .before .before .pre .1) (l .inv .2) in
+    (omega (arith, c .before .before .before .before .before .before .before .before .pre .0, o .0, c .before .before .before .if1 .left), (walks-on (c .before .before .before .before .before .before .before .before .pre .1) (l .q) (o .0) (l .inv .0), c .before .before .before .if1 .left))
+
+total-records-default-from-requires : (t : ℕ) → total-records-lts.Need-default-from-requires (total-records-uses t) (total-records-at t) total-records.Post total-records-Inv-loop total-records-μ-loop
+total-records-default-from-requires t c κs =
     let g = c .before .before .before .before .before .before .before .before .before .args in
     let l = c .before .before .before .before .before .before .loop in
-    let w = walks-on (c .before .before .before .before .before .before .before .before .before .pre .1) (l .q) (totals-on (c .before .before .before .before .before .before .before .before .before .pre .1) (l .inv .2) .0) (l .inv .0) in
-    let t = total-add (c .before .before .before .before .before .before .before .before .before .pre .1) (l .inv .2) (c .before .before .total-record .ensures) (subst (λ (b : Bool). Follows (g .has) (l .d) b) (sym (c .before .before .before .has-default .ensures)) (follows (g .has) (l .d))) in
+    near-total (c .before .before .before .before .before .before .before .before .before .pre .1) (l .inv .2) (c .total-record .ensures) (subst (λ (b : Bool). Follows (g .has) (l .d) b) (sym (c .before .has-default .ensures)) (follows (g .has) (l .d)))
+
+total-records-add-n : (t : ℕ) → total-records-lts.Need-add-n (total-records-uses t) (total-records-at t) total-records.Post total-records-Inv-loop total-records-μ-loop
+total-records-add-n t c =
+    let l = c .before .before .before .before .before .before .before .before .loop in
+    let w = walks-on (c .before .before .before .before .before .before .before .before .before .before .before .pre .1) (l .q) (totals-on (c .before .before .before .before .before .before .before .before .before .before .before .pre .1) (l .inv .2) .0) (l .inv .0) in
+    omega (arith, totals-few (c .before .before .before .before .before .before .before .before .before .before .before .pre .1) (l .inv .2), totals-few w (c .before .before .total-record .ensures))
+
+total-records-add-i-2 : (t : ℕ) → total-records-lts.Need-add-i-2 (total-records-uses t) (total-records-at t) total-records.Post total-records-Inv-loop total-records-μ-loop
+total-records-add-i-2 t c = omega arith
+
+total-records-loop-less-2 : (t : ℕ) → total-records-lts.Need-loop-less-2 (total-records-uses t) (total-records-at t) total-records.Post total-records-Inv-loop total-records-μ-loop
+total-records-loop-less-2 t c = omega arith
+
+total-records-loop-again-2 : (t : ℕ) → total-records-lts.Need-loop-again-2 (total-records-uses t) (total-records-at t) total-records.Post total-records-Inv-loop total-records-μ-loop
+total-records-loop-again-2 t c =
+    let g = c .before .before .before .before .before .before .before .before .before .before .before .args in
+    let l = c .before .before .before .before .before .before .before .before .loop in
+    let w = walks-on (c .before .before .before .before .before .before .before .before .before .before .before .pre .1) (l .q) (totals-on (c .before .before .before .before .before .before .before .before .before .before .before .pre .1) (l .inv .2) .0) (l .inv .0) in
+    let t = total-add (c .before .before .before .before .before .before .before .before .before .before .before .pre .1) (l .inv .2) (c .before .before .total-record .ensures) (subst (λ (b : Bool). Follows (g .has) (l .d) b) (sym (c .before .before .before .has-default .ensures)) (follows (g .has) (l .d))) in
     (totals-on w (c .before .before .total-record .ensures) .1, omega arith, total-same _ t refl refl (c .before .default-from .ensures))
 
 total-records-returns-2 : (t : ℕ) → total-records-lts.Need-returns-2 (total-records-uses t) (total-records-at t) total-records.Post total-records-Inv-loop total-records-μ-loop
@@ -192,11 +217,17 @@ pub +total-record+total-records-spec : {M : Type 1} → statement M
     total-records-μ-loop
     (total-records-loop-holds t)
     (total-records-returns t)
+    (total-records-mul-w t)
+    (total-records-shared-slice-read-w t)
+    (total-records-cast-q t)
+    (total-records-add-i t)
+    (total-records-loop-less t)
+    (total-records-loop-again t)
     (total-records-has-default-requires t)
     (total-records-total-record-requires t)
     (total-records-default-from-requires t)
     (total-records-add-n t)
-    (total-records-add-i t)
-    (total-records-loop-less t)
-    (total-records-loop-again t)
+    (total-records-add-i-2 t)
+    (total-records-loop-less-2 t)
+    (total-records-loop-again-2 t)
     (total-records-returns-2 t)
