@@ -6,7 +6,8 @@ ghost use mathlib.Core.Path.{_≡_};
 ghost use mathlib.Core.Bool.{true, false};
 ghost use Prim.Native.Nat.{_+_, _*_, _/_, _%_, _<_, _≤_};
 ghost use lib.ListN.{length, getD};
-ghost use Rattle.counter.specs.Contract.{markIn, Planned, Ready, Noted, Annotated};
+ghost use Rattle.records.specs.Place.{labelAt};
+ghost use Rattle.counter.specs.Contract.{markIn, Planned, Ready, Noted, Annotated, Totals};
 ghost use Rattle.count_table.specs.Note.{Behind, Leads, isLiveClass, Clear};
 
 // The notes of all places of the words, their ends and aliases as they were. All ids are below s.
@@ -69,12 +70,29 @@ fn live_total(ws: &[u32], notes: &[u32], at: usize, s: u32) -> Total
     ensures { λ r. ⌜ Leads (now (ws .entry)) at r ⌝ }
 {
     let id = inspect::class_id(ws, notes, at + 1);
-    let t = counter::total_records(ws, notes, at + 1, 1, Scope { live: true, id }, false);
+    let t = class_total(ws, notes, at, id, s);
     Total {
         at: t.at,
         count: t.count + counter::class_count(ws, notes, at, id, t.default),
         default: NONE,
     }
+}
+
+// What that class leads to: what its note says if its body has no mark, since then the class around doesn't matter.
+fn class_total(ws: &[u32], notes: &[u32], at: usize, id: u32, s: u32) -> Total
+    requires { ⌜ Behind (now ws) (now notes) at s × (labelAt (now ws) at .kind ≡ 4) ⌝ }
+    ensures { λ r. ⌜ Totals (now (ws .entry)) (at + 1) 1 (record { live = true; id = id }) false r ⌝ }
+{
+    let b = inspect::body(ws, notes, at + 1);
+    if notes[b] % 2 == 0 {
+        let w = notes[at + 1];
+        return Total {
+            at: (w / 65536) as usize,
+            count: w / 4 % 16384,
+            default: NONE,
+        };
+    }
+    counter::total_records(ws, notes, at + 1, 1, Scope { live: true, id }, false)
 }
 
 // What any other record leads to where no class around is live: its children and no more.

@@ -1,3 +1,4 @@
 pub mod Contract
 pub mod Steps
+pub mod Body
 pub mod Totals

@@ -11,10 +11,12 @@ use native.Mathlib.Omega.{arith}
 use lib.Dec.{eqb}
 use lib.ListN.{length, getD}
 use borrow.Author.Tests.{eqb-true, eqb-false, eq-eqb, ne-eqb}
-use Rattle.records.specs.Forest.{takeF}
+use Rattle.records.specs.Forest.{end, node, takeF}
+use Rattle.records.specs.Label.{Trees}
 use Rattle.records.specs.Place.{recordsAt, labelAt, arityAt, kidsAt, endOf, end-one, end-add, end-low, end-high}
-use Rattle.rewriting.specs.Parts.{anyRecord, idOf, isDecoratedMember, hasPlainKey}
+use Rattle.rewriting.specs.Parts.{anyRecord, elementsOf, idOf, isDecoratedMember, hasPlainKey}
 use Rattle.rewriting.specs.Visit.{State, Result, classSymbol, visit}
+use Rattle.inspect.specs.Row.{anyRow, or-left, or-right}
 use Rattle.inspect.specs.Child.{optOf, opt-is, opt-no}
 use Rattle.walk_laws.specs.Rows.{one-after, kids-visit}
 use Rattle.walk_laws.specs.After.{keyAfter, memberAfter, classAfter, decoratedAfter, aliasAfter, defaultAfter}
@@ -22,6 +24,7 @@ use Rattle.walk_laws.specs.Kinds.{isElementKind, element-after}
 use Rattle.walk_laws.specs.Quiet.{hasClass}
 use Rattle.walk_laws.specs.Still.{changes, still-after}
 use Rattle.walk_laws.specs.Around.{kids-same, after-same}
+use Rattle.walk_laws.specs.Undecorated.{Undecorated, undecorated-same}
 use Rattle.counter.specs.Contract.{aroundOf, stateOf, markIn, stillIn, isWalked, unlive, Planned, Ready, Counts, Free, Noted, Annotated, Walks, hasDefault, defaultFrom, Near, FromAny, Totals, keyCount, classCount}
 use Rattle.counter.specs.Steps.{counts-on, counts-low, counts-high, counts-within, below-more, ready-on, count-none, count-past, count-add, count-other, count-plain, count-member, taken-id, taken-default, taken-fresh}
 use Rattle.counter.specs.declared.Scope.{Scope}
@@ -126,6 +129,13 @@ joined-low m k x y s t = go (eqb y 67108864) refl s t
     go true g (inr a) t = inr (omega (arith, from-none y m x (eqb-true y 67108864 g)))
     go false g s (inl a) = absurd (eqb-false y 67108864 g a)
     go false g s (inr a) = inr (omega (arith, from-some y m x (eqb-false y 67108864 g)))
+
+-- ---- rows without decorated members
+
+none-decorated : (f : Trees) → anyRow isDecoratedMember f ≡ false → Undecorated f
+unfolding anyRow Undecorated
+none-decorated end e = tt
+none-decorated (node l k r) e = (or-left (isDecoratedMember l k) (anyRow isDecoratedMember r) e, none-decorated r (or-right (isDecoratedMember l k) (anyRow isDecoratedMember r) e))
 
 -- ---- counters in front
 
@@ -318,6 +328,11 @@ module _ {ws notes : List ℕ} {at : ℕ} (w : Walks ws notes at) (h : at < leng
       (labelAt ws at .kind ≡ 32 → ⊥) → Totals ws at 1 a has (record { at = x / 65536; count = x / 4 % 16384; default = 67108864 })
   total-quiet a26 a29 a30 a31 a32 = total-by λ b n d f l.
       record { place = t .place; state = after-same ws (w .ready .whole) at h (aroundOf b) (aroundOf unlive) (stateOf n d) a26 a29 a30 a31 a32 ∙ t .count unlive n d refl f .state }
+
+  -- a class without decorated members
+  pub total-undecorated : labelAt ws at .kind ≡ 26 → anyRow isDecoratedMember (elementsOf (kidsAt ws at)) ≡ false → Totals ws at 1 a has (record { at = x / 65536; count = x / 4 % 16384; default = 67108864 })
+  total-undecorated k e = total-by λ b n d f l.
+      record { place = t .place; state = undecorated-same ws (w .ready .whole) at h (aroundOf b) (aroundOf unlive) (stateOf n d) k (none-decorated _ e) ∙ t .count unlive n d refl f .state }
 
   -- ---- an element of a live class
 

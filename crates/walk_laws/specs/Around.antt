@@ -43,7 +43,7 @@ own-same plain a b l kids outside x n = refl
 own-same (field d) a b l kids outside x n =
     memberIf-same _ _ a b l kids _ _ _ x (ap (a .live &&_) n ∙ and-false (a .live)) (ap (b .live &&_) n ∙ and-false (b .live))
 
-one-same : (a b : Around) (l : Label) (k : Trees) (s : State) → isDecoratedMember l k ≡ false → ((x y : Around) (t : State) → visit x k t ≡ visit y k t) → visitOne a l k s ≡ visitOne b l k s
+pub one-same : (a b : Around) (l : Label) (k : Trees) (s : State) → isDecoratedMember l k ≡ false → ((x y : Around) (t : State) → visit x k t ≡ visit y k t) → visitOne a l k s ≡ visitOne b l k s
 unfolding visitOne work
 one-same a b l k s n q =
     ap (λ (r : Result). since (roleOf l) l (own (roleOf l) a l k (s .default) r) r) (q (inside (roleOf l) a k) (inside (roleOf l) b k) (entering (roleOf l) s))
@@ -72,14 +72,14 @@ pub then-same : (x : Result) (f g : State → Result) → ((t : State) → f t �
 unfolding _then_
 then-same x f g e = ap (join x) (e (x .after))
 
-node-same : (a b : Around) (l : Label) (k r : Trees) (s : State) → visitOne a l k s ≡ visitOne b l k s → ((t : State) → visit a r t ≡ visit b r t) → visit a (node l k r) s ≡ visit b (node l k r) s
+pub node-same : (a b : Around) (l : Label) (k r : Trees) (s : State) → visitOne a l k s ≡ visitOne b l k s → ((t : State) → visit a r t ≡ visit b r t) → visit a (node l k r) s ≡ visit b (node l k r) s
 node-same a b l k r s e f =
     visit-node a l k r s
     ∙ ap (λ (x : Result). x then λ t. visit a r t) e
     ∙ then-same (visitOne b l k s) (λ t. visit a r t) (λ t. visit b r t) f
     ∙ sym (visit-node b l k r s)
 
-first-same : (q : Slot) (a b : Around) (l : Label) (k : Trees) (s : State) → Allowed q l → T (quiet (q .category)) →
+pub first-same : (q : Slot) (a b : Around) (l : Label) (k : Trees) (s : State) → Allowed q l → T (quiet (q .category)) →
     (Quiet (slotsBelow q (l .kind) (l .payload)) → (x y : Around) (t : State) → visit x k t ≡ visit y k t) → visitOne a l k s ≡ visitOne b l k s
 first-same q a b l k s w t below = go (hasClass (l .kind)) refl
   where
@@ -90,7 +90,7 @@ first-same q a b l k s w t below = go (hasClass (l .kind)) refl
     go true e = class-same a b l k s e
     go false e = one-same a b l k s (no-member l k (quiet-member l c)) (below (quiet-below q (l .kind) (l .payload) (ap (_|| eqb (rowOf (l .kind) .category) Element) c) (ap not e)))
 
-visit-same : (f : Trees) (qs : List Slot) (a b : Around) (s : State) → Fits qs f → Quiet qs → visit a f s ≡ visit b f s
+pub visit-same : (f : Trees) (qs : List Slot) (a b : Around) (s : State) → Fits qs f → Quiet qs → visit a f s ≡ visit b f s
 unfolding Fits Quiet
 visit-same end [] a b s f g = unfold visit in refl
 visit-same end (q ∷ qs) a b s f g = absurd f

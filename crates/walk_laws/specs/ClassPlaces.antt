@@ -49,7 +49,7 @@ module _ (ws : List ℕ) where
   read-add : (at j k : ℕ) → takeF (j + k) (recordsAt ws at) ≡ appendF (takeF j (recordsAt ws at)) (takeF k (recordsAt ws (endOf ws at j)))
   read-add at j k = takeF-add j k (recordsAt ws at) ∙ ap (λ (g : Trees). appendF (takeF j (recordsAt ws at)) (takeF k g)) (end-drop ws at j)
 
-replicate-quiet : (n : ℕ) (q : Slot) → T (quiet (q .category)) → Quiet (replicate n q)
+pub replicate-quiet : (n : ℕ) (q : Slot) → T (quiet (q .category)) → Quiet (replicate n q)
 unfolding Quiet
 replicate-quiet n q t = subst Quiet (append-nil (replicate n q)) (quiet-replicate n q [] t tt)
 
@@ -119,7 +119,7 @@ module _ (ws : List ℕ) (at n : ℕ) (out : rowOf n .category ≡ Expression �
 
 -- ---- the children of the class at c, from the place f on
 
-below-26 : (q : Slot) (p : ℕ) → slotsBelow q 26 p ≡ (slot Decorators 0 ∷ replicate (bit0 p) id) ++ (replicate (bit2 p) expression ++ (body ∷ []))
+pub below-26 : (q : Slot) (p : ℕ) → slotsBelow q 26 p ≡ (slot Decorators 0 ∷ replicate (bit0 p) id) ++ (replicate (bit2 p) expression ++ (body ∷ []))
 unfolding slotsBelow rowOf lookup table row slots
 below-26 q p = refl
 

@@ -16,6 +16,7 @@ pub mod Default
 pub mod Alias
 pub mod ClassParts
 pub mod ClassPlaces
+pub mod Undecorated
 pub mod First
 pub mod ClassPlan
 pub mod Planned

@@ -13,11 +13,10 @@ add-class-id c = search needs
 class-id-requires : tie.Need-class-id-requires
 class-id-requires c κs = c .before .before .pre .0 .ready .planned .ends
 
-add-total-records : tie.Need-add-total-records
-add-total-records c = search needs
-
-total-records-requires : tie.Need-total-records-requires
-total-records-requires c κs = behind-walks (c .before .before .before .pre .0)
+class-total-requires : tie.Need-class-total-requires
+class-total-requires c κs =
+    let p = c .before .before .before .pre in
+    (p .0, live-kind (c .before .before .before .args .ws .now) (c .before .before .before .args .at) (p .1) .0)
 
 class-count-requires : tie.Need-class-count-requires
 class-count-requires c κs =
@@ -25,11 +24,11 @@ class-count-requires c κs =
     let k = live-kind (c .before .before .before .before .args .ws .now) (c .before .before .before .before .args .at) (c .before .before .before .before .pre .1) .0 in
     (p .ready .planned, class-inside (c .before .before .before .before .args .ws .now) (p .ready .whole) (c .before .before .before .before .args .at) (p .inside) k, class-kind (c .before .before .before .before .args .ws .now) (p .ready .whole) (c .before .before .before .before .args .at) (p .inside) k, omega (arith, p .inside, p .ready .few))
 
-add-t10 : tie.Need-add-t10
-add-t10 c = omega (arith, totals-few (behind-walks (c .before .before .before .before .before .before .pre .0)) (c .before .before .total-records .ensures), c .before .class-count .ensures .1)
+add-t9 : tie.Need-add-t9
+add-t9 c = omega (arith, totals-few (behind-walks (c .before .before .before .before .before .before .pre .0)) (c .before .before .class-total .ensures), c .before .class-count .ensures .1)
 
 returns : tie.Need-returns
-returns c = live-leads (c .before .before .before .before .before .before .pre .0) (c .before .before .before .before .before .before .pre .1) (c .before .before .before .class-id .ensures .0) (c .before .before .total-records .ensures) (c .before .class-count .ensures .0) (c .before .class-count .ensures .1)
+returns c = live-leads (c .before .before .before .before .before .before .pre .0) (c .before .before .before .before .before .before .pre .1) (c .before .before .before .class-id .ensures .0) (c .before .before .class-total .ensures) (c .before .class-count .ensures .0) (c .before .class-count .ensures .1)
 
 pub live-total-spec : {M : Type 1} → statement M
 live-total-spec =
@@ -37,8 +36,7 @@ live-total-spec =
     (tie.spec
     add-class-id
     class-id-requires
-    add-total-records
-    total-records-requires
+    class-total-requires
     class-count-requires
-    add-t10
+    add-t9
     returns)

@@ -4,7 +4,8 @@ use native.Mathlib.Omega.{arith}
 use borrow.Author.Needs.{needs}
 use borrow.Author.Tests.{eq-eqb, ne-eqb}
 use Rattle.walk_laws.specs.Kinds.{class-inside}
-use Rattle.transform.specs.Plain.{plain-not, plain-is, body-found, class-mark, body-mark}
+use Rattle.counter.specs.Body.{body-found, body-mark}
+use Rattle.transform.specs.Plain.{plain-not, plain-is, class-mark}
 use Rattle.transform.proofs.is_plain.Statement.{statement}
 use Rattle.transform.proofs.is_plain.Tie as tie
 
