@@ -86,7 +86,7 @@ pub record PlanFrom (ws notes : List ℕ) (at : ℕ) (s : Count) (g : ClassPlan)
   pub decorated : g .decorated ≡ isDecorated (kidsAt ws (at + 1))
   pub private : g .private ≡ hasPrivateIn (kidsAt ws (at + 1))
   pub fixed : g .fixed ≡ hasStatic (elementsOf (kidsAt ws (at + 1)))
-  pub calls : g .calls ≡ countCalled (elementsOf (kidsAt ws (at + 1)))
+  pub calls : g .private ≡ true → g .calls ≡ countCalled (elementsOf (kidsAt ws (at + 1)))
   pub outer : g .decorated ≡ true → g .outer ≡ planOf true (optOf (g .id)) (stateOf (s .next) (s .default)) (markIn (getD notes at 0)) .outer
   pub inner : optOf (g .inner) ≡ planOf (g .decorated) (optOf (g .id)) (stateOf (s .next) (s .default)) (markIn (getD notes at 0)) .inner
   pub alias : optOf (g .alias) ≡ planOf (g .decorated) (optOf (g .id)) (stateOf (s .next) (s .default)) (markIn (getD notes at 0)) .alias
@@ -98,7 +98,7 @@ pub record Plans (ws : List ℕ) (at n : ℕ) (g : ClassPlan) : Type 0 where
   pub decorated : g .decorated ≡ isDecorated (rk ws at)
   pub private : g .private ≡ hasPrivateIn (rk ws at)
   pub fixed : g .fixed ≡ hasStatic (elementsOf (rk ws at))
-  pub calls : g .calls ≡ countF (queue ws at n)
+  pub calls : g .private ≡ true → g .calls ≡ countF (queue ws at n)
   pub outer : g .decorated ≡ true → g .outer ≡ plan ws at n .outer
   pub inner : optOf (g .inner) ≡ plan ws at n .inner
   pub alias : optOf (g .alias) ≡ plan ws at n .alias

@@ -208,14 +208,14 @@ module _ (m : Bool) (n d : ℕ) (g : ClassPlan) (room : n + 1 < 67108864) (few :
 -- b: the place of its body; k: the number of elements
 pub plan-from : {ws notes : List ℕ} {at : ℕ} {s : Count} {g : ClassPlan} (b k : ℕ) → kidsAt ws b ≡ elementsOf (kidsAt ws (at + 1)) → k ≡ arityAt ws b →
     optOf (g .id) ≡ idOf (kidsAt ws (at + 1)) → g .decorated ≡ isDecorated (kidsAt ws (at + 1)) → g .private ≡ hasPrivateIn (kidsAt ws (at + 1)) →
-    g .fixed ≡ hasStatic (takeF k (recordsAt ws (b + 1))) → g .calls ≡ countCalled (kidsAt ws b) →
+    g .fixed ≡ hasStatic (takeF k (recordsAt ws (b + 1))) → (g .private ≡ true → g .calls ≡ countCalled (kidsAt ws b)) →
     FoundSymbols (markIn (getD notes at 0)) (s .next) (s .default) g → PlanFrom ws notes at s g
 plan-from {ws} b k e l i d p x c f = record {
   id = i;
   decorated = d;
   private = p;
   fixed = x ∙ ap hasStatic (kids-row ws b k l ∙ e);
-  calls = c ∙ ap countCalled e;
+  calls = λ t. c t ∙ ap countCalled e;
   outer = f .outer;
   inner = f .inner;
   alias = f .alias;
@@ -341,13 +341,16 @@ module _ {ws notes : List ℕ} {at n : ℕ} (f : Ready ws notes at n) (h : at < 
         let dec : g .decorated ≡ isDecorated (rk ws at) = unfold rk in p .decorated in
         cc (ids, dec, sym end-state) ∙ plan-search (isDecorated (rk ws at)) (idOf (rk ws at)) (atEnd ws at n) (markIn (getD notes at 0)) (mentioned (idOf (rk ws at)) (els ws at n)) search
 
+    queued : countCalled (elementsOf (kidsAt ws (at + 1))) ≡ countF (queue ws at n)
+    queued = unfold rk in calls-queued ws (f .whole) at h kind n
+
     pub plans : Plans ws at n g
     plans = record {
       id = unfold rk in p .id;
       decorated = unfold rk in p .decorated;
       private = unfold rk in p .private;
       fixed = unfold rk in p .fixed;
-      calls = p .calls ∙ (unfold rk in calls-queued ws (f .whole) at h kind n);
+      calls = λ t. p .calls t ∙ queued;
       outer = λ e. p .outer e ∙ ap (λ (b : Bool). planOf b (optOf (g .id)) (stateOf (r .next) (r .default)) (markIn (getD notes at 0)) .outer) (sym e) ∙ ap (λ (x : Plan). x .outer) planned;
       inner = p .inner ∙ ap (λ (x : Plan). x .inner) planned;
       alias = p .alias ∙ ap (λ (x : Plan). x .alias) planned;

@@ -1,6 +1,6 @@
 -- Laws for the steps of the walkers that write classes: the words by a class's plan are the words by its place; the first constructor. Assumes nothing.
 use mathlib.Core.Path.{_≡_, refl, ap, sym, subst, _∙_}
-use mathlib.Core.Bool.{Bool, true, false, _||_, not, cond}
+use mathlib.Core.Bool.{Bool, true, false, _||_, not, cond, _&&_}
 use mathlib.Core.Option.{Option, none, some}
 use mathlib.Core.Logic.{_⊎_, inl, inr}
 use mathlib.Core.List.{List, [], _∷_, _++_, append-assoc, append-nil}
@@ -93,8 +93,19 @@ module _ {ws : List ℕ} {at n : ℕ} {g : ClassPlan} (p : Plans ws at n g) (c :
   front-plan = rw (p .alias, p .fixed)
 
   block-plan : blockOf g ≡ block ws at n
-  unfolding blockOf block
-  block-plan = rw (p .calls, p .private, p .decorated, empty-count (queue ws at n))
+  block-plan = go (g .private) refl
+    where
+      go : (x : Bool) → g .private ≡ x → blockOf g ≡ block ws at n
+      go true e = unfold blockOf block in rw (p .calls e, p .private, p .decorated, empty-count (queue ws at n))
+      go false e = unfold blockOf block in rw (← (p .private), e)
+
+  -- the words of the block behind its elements, rest being those behind the 33's
+  block-words : (rest : List ℕ) → cond (block ws at n) (wordBelow c 33 (g .calls) ∷ rest) [] ≡ cond (block ws at n) (wordBelow c 33 (countF (queue ws at n)) ∷ rest) []
+  block-words rest = go (g .private) refl
+    where
+      go : (x : Bool) → g .private ≡ x → cond (block ws at n) (wordBelow c 33 (g .calls) ∷ rest) [] ≡ cond (block ws at n) (wordBelow c 33 (countF (queue ws at n)) ∷ rest) []
+      go true e = rw (p .calls e)
+      go false e = unfold block in rw (← (p .private), e)
 
   -- its decorators
   pub ds-plan : hereAt ws (at + 3) (arityAt ws (at + 2)) (scopeOf g) (record { next = n; default = 67108864 }) ≡ ds ws at n
@@ -121,8 +132,8 @@ module _ {ws : List ℕ} {at n : ℕ} {g : ClassPlan} (p : Plans ws at n g) (c :
     unfolding callsAt queue
     calls-plan = cc (scope-plan, se, be)
 
-    pub count-plan : g .calls ≡ countF (callsAt ws (b + 1) (arityAt ws b) (scopeOf g) s)
-    count-plan = p .calls ∙ ap countF (sym calls-plan)
+    pub count-plan : g .private ≡ true → g .calls ≡ countF (callsAt ws (b + 1) (arityAt ws b) (scopeOf g) s)
+    count-plan t = p .calls t ∙ ap countF (sym calls-plan)
 
     words-plan : (f : Trees) → written (bodyWord g c) f ≡ written (under (wordBelow c) (plan ws at n .outer) (plan ws at n .alias)) f
     words-plan f = written-same (bodyWord g c) (under (wordBelow c) (plan ws at n .outer) (plan ws at n .alias)) (under-plan (g .decorated) refl) f
@@ -130,7 +141,7 @@ module _ {ws : List ℕ} {at n : ℕ} {g : ClassPlan} (p : Plans ws at n g) (c :
     pub body-plan : bodyBy g c ws b s ≡ bodyWords ws at n (wordBelow c)
     unfolding bodyBy blockBy bodyWords elementWords frontWords wordsOf
     body-plan =
-        rw (els-plan, words-plan (cond (g .decorated) (bareFirst (els ws at n)) (els ws at n)), calls-plan, front-plan, block-plan, p .calls, p .alias, be, p .decorated)
+        rw (els-plan, words-plan (cond (g .decorated) (bareFirst (els ws at n)) (els ws at n)), calls-plan, front-plan, block-plan, block-words _, p .alias, be, p .decorated)
 
     -- its assignment
     pub assignment-plan : g .decorated ≡ true → assignmentBy g c ws (ds ws at n) b s ≡ assignmentWords ws at n (wordBelow c)
@@ -425,6 +436,14 @@ module _ {ws notes : List ℕ} {b : ℕ} {c : ClassStack} {pos : ℕ} (g : Class
       let z : List ℕ = blockBy g c ws b s in
       let e : length (bodyBy g c ws b s) ≡ suc (length (x ++ (y ++ z))) = ap length body-split in
       omega (arith, f .fit, e, length-append x (y ++ z), length-append y z)
+
+  pub block-private : blockOf g ≡ true → g .private ≡ true
+  unfolding blockOf
+  block-private e = go (g .private) _ e
+    where
+      go : (x y : Bool) → (x && y) ≡ true → x ≡ true
+      go true y e = refl
+      go false y e = e
 
   pub block-room : blockOf g ≡ true → length (blockBy g c ws b s) ≡ 1 + size (callsAt ws (b + 1) (arityAt ws b) (scopeOf g) s)
   block-room e = ap length block-is ∙ (let l = length-words c (callsAt ws (b + 1) (arityAt ws b) (scopeOf g) s) in omega (arith, l))

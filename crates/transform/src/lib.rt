@@ -1109,7 +1109,7 @@ fn plan(ws: &[u32], notes: &[u32], at: usize, s: Count) -> ClassPlan
     let private = private_at(ws, notes, at + 1);
     let b = inspect::body(ws, notes, at + 1);
     let fixed = inspect::has_static(ws, notes, b + 1, inspect::children_at(ws, b));
-    let calls = call_count_at(ws, notes, b);
+    let calls = call_count_at(ws, notes, b, private);
     if decorated {
         if id == NONE {
             return ClassPlan {
@@ -1157,11 +1157,14 @@ fn private_at(ws: &[u32], notes: &[u32], at: usize) -> bool
     inspect::has_private_in_expression(ws, notes, at)
 }
 
-// The number of decorated members in the body at b, or 0 past the end. The body's mark says whether there is one.
-fn call_count_at(ws: &[u32], notes: &[u32], b: usize) -> u32
+// The number of decorated members in the body at b, or 0 past the end, where rule 9's block asks for it. The body's mark says whether there is one.
+fn call_count_at(ws: &[u32], notes: &[u32], b: usize, private: bool) -> u32
     requires { ⌜ (length (now ws) ≤ 4096) × Planned (now ws) (now notes) × (b < length (now ws) → labelAt (now ws) b .kind ≡ 29) ⌝ }
-    ensures { λ r. ⌜ r ≡ countCalled (kidsAt (now (ws .entry)) b) ⌝ }
+    ensures { λ r. ⌜ (private ≡ true → r ≡ countCalled (kidsAt (now (ws .entry)) b)) ⌝ }
 {
+    if !private {
+        return 0;
+    }
     if ws.len() <= b {
         return 0;
     }
@@ -1390,7 +1393,7 @@ fn class_body(
     out: &mut [u32],
     pos: usize,
 ) -> usize
-    requires { ⌜ Asks (now ws) (now notes) b 1 (s .next) c pos (length (bodyBy g c (now ws) b s)) × (b < length (now ws)) × (labelAt (now ws) b .kind ≡ 29) × (c .depth + 1 + nestAt (now ws) b 1 ≤ capacity) × (g .alias ≤ 67108864) × (g .decorated ≡ true → g .outer < 67108864) × (g .calls ≡ countF (callsAt (now ws) (b + 1) (arityAt (now ws) b) (scopeOf g) s)) × (g .decorated ≡ false → optOf (g .alias) ≡ none) × Below (s .next) (optOf (g .id)) × Below (s .next) (optOf (s .default)) ⌝ }
+    requires { ⌜ Asks (now ws) (now notes) b 1 (s .next) c pos (length (bodyBy g c (now ws) b s)) × (b < length (now ws)) × (labelAt (now ws) b .kind ≡ 29) × (c .depth + 1 + nestAt (now ws) b 1 ≤ capacity) × (g .alias ≤ 67108864) × (g .decorated ≡ true → g .outer < 67108864) × (g .private ≡ true → g .calls ≡ countF (callsAt (now ws) (b + 1) (arityAt (now ws) b) (scopeOf g) s)) × (g .decorated ≡ false → optOf (g .alias) ≡ none) × Below (s .next) (optOf (g .id)) × Below (s .next) (optOf (s .default)) ⌝ }
     ensures { λ r. ⌜ Wrote (now (out .entry)) pos (bodyBy g c (now (ws .entry)) b s) (now (out .exit)) r ⌝ }
 {
     let n = inspect::children_at(ws, b) as u32 + front_count(g) + block_count(g);

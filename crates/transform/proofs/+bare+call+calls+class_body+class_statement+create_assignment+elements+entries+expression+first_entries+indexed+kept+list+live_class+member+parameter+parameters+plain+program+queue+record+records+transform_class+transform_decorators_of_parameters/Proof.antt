@@ -4,7 +4,7 @@ use Rattle.transform.specs.Kept.{plain-rest, kept-plain, unmarked-30, un
 -- The walkers that call one another: each need is a law of specs/Steps*.antt, Copies.antt or Plans.antt. The measure is the words left, and for the walkers of one
 -- place a rank.
 use Rattle.transform.specs.Marks.{allowed-mark, allowed-single}
-use Rattle.transform.specs.StepsClasses.{no-constructor, first-at, elements-plain, elements-none, elements-asks, elements-wrote, before-asks, constructor-asks, constructor-inside, behind-asks, bare-wrote, arity-few, one-le, one-no, one-yes, stack-outer, stack-asks, body-room, block-room, body-wrote, block-wrote, alias-none, count-plan, inside-asks, few-flags, body-inside, body-is, body-later, body-deep, body-id, body-default, class-heritage, class-place, class-state, class-body-asks, class-wrote, entries-none, entries-kids, entries-inside, entries-asks, entries-wrote, decorators-asks, assignment-entries, entries-few, entries-end, assignment-wrote, queue-silent, queue-place, queue-state, queue-calls, queue-plain, queue-assignment, calls-few, assignment-end, queue-wrote, class-parts, statement-class, statement-queue, statement-end, statement-few, statement-emitted}
+use Rattle.transform.specs.StepsClasses.{no-constructor, first-at, elements-plain, elements-none, elements-asks, elements-wrote, before-asks, constructor-asks, constructor-inside, behind-asks, bare-wrote, arity-few, one-le, one-no, one-yes, stack-outer, stack-asks, body-room, block-private, block-room, body-wrote, block-wrote, alias-none, count-plan, inside-asks, few-flags, body-inside, body-is, body-later, body-deep, body-id, body-default, class-heritage, class-place, class-state, class-body-asks, class-wrote, entries-none, entries-kids, entries-inside, entries-asks, entries-wrote, decorators-asks, assignment-entries, entries-few, entries-end, assignment-wrote, queue-silent, queue-place, queue-state, queue-calls, queue-plain, queue-assignment, calls-few, assignment-end, queue-wrote, class-parts, statement-class, statement-queue, statement-end, statement-few, statement-emitted}
 use Rattle.counter.specs.Totals.{note-at, element-single}
 use Rattle.transform.specs.Copies.{copies, copied-emits}
 use Rattle.transform.specs.Steps.{noted-next, asks-kids}
@@ -842,7 +842,7 @@ class-body-put-requires-2 t c κs =
       p .0 .stack,
       omega (arith, body-room (c .before .before .before .before .before .before .before .before .before .before .before .before .before .before .before .before .before .before .before .before .before .before .args .g) (c .before .before .before .before .before .before .before .before .before .before .before .before .before .before .before .before .before .before .before .before .before .before .args .s) (p .0) (c .before .before .before .before .before .before .before .body-stack .result) (r .2), c .before .before .before .before .before .elements .ensures .end, c .before .before .before .before .before .before .before .before .before .before .alias-block .ensures .end, c .before .before .before .before .before .before .before .before .before .before .before .before .before .before .put .ensures .end),
       omega arith,
-      omega (arith, body-room (c .before .before .before .before .before .before .before .before .before .before .before .before .before .before .before .before .before .before .before .before .before .before .args .g) (c .before .before .before .before .before .before .before .before .before .before .before .before .before .before .before .before .before .before .before .before .before .before .args .s) (p .0) (c .before .before .before .before .before .before .before .body-stack .result) (r .2), block-room (c .before .before .before .before .before .before .before .before .before .before .before .before .before .before .before .before .before .before .before .before .before .before .args .g) (c .before .before .before .before .before .before .before .before .before .before .before .before .before .before .before .before .before .before .before .before .before .before .args .s) (p .0) (c .before .before .before .before .before .before .before .body-stack .result) (r .2) y, p .6, count-size (callsAt (c .before .before .before .before .before .before .before .before .before .before .before .before .before .before .before .before .before .before .before .before .before .before .args .ws .now) (c .before .before .before .before .before .before .before .before .before .before .before .before .before .before .before .before .before .before .before .before .before .before .args .b + 1) (arityAt (c .before .before .before .before .before .before .before .before .before .before .before .before .before .before .before .before .before .before .before .before .before .before .args .ws .now) (c .before .before .before .before .before .before .before .before .before .before .before .before .before .before .before .before .before .before .before .before .before .before .args .b)) (scopeOf (c .before .before .before .before .before .before .before .before .before .before .before .before .before .before .before .before .before .before .before .before .before .before .args .g)) (c .before .before .before .before .before .before .before .before .before .before .before .before .before .before .before .before .before .before .before .before .before .before .args .s))),
+      omega (arith, body-room (c .before .before .before .before .before .before .before .before .before .before .before .before .before .before .before .before .before .before .before .before .before .before .args .g) (c .before .before .before .before .before .before .before .before .before .before .before .before .before .before .before .before .before .before .before .before .before .before .args .s) (p .0) (c .before .before .before .before .before .before .before .body-stack .result) (r .2), block-room (c .before .before .before .before .before .before .before .before .before .before .before .before .before .before .before .before .before .before .before .before .before .before .args .g) (c .before .before .before .before .before .before .before .before .before .before .before .before .before .before .before .before .before .before .before .before .before .before .args .s) (p .0) (c .before .before .before .before .before .before .before .body-stack .result) (r .2) y, p .6 (block-private (c .before .before .before .before .before .before .before .before .before .before .before .before .before .before .before .before .before .before .before .before .before .before .args .g) (c .before .before .before .before .before .before .before .before .before .before .before .before .before .before .before .before .before .before .before .before .before .before .args .s) (p .0) (c .before .before .before .before .before .before .before .body-stack .result) (r .2) y), count-size (callsAt (c .before .before .before .before .before .before .before .before .before .before .before .before .before .before .before .before .before .before .before .before .before .before .args .ws .now) (c .before .before .before .before .before .before .before .before .before .before .before .before .before .before .before .before .before .before .before .before .before .before .args .b + 1) (arityAt (c .before .before .before .before .before .before .before .before .before .before .before .before .before .before .before .before .before .before .before .before .before .before .args .ws .now) (c .before .before .before .before .before .before .before .before .before .before .before .before .before .before .before .before .before .before .before .before .before .before .args .b)) (scopeOf (c .before .before .before .before .before .before .before .before .before .before .before .before .before .before .before .before .before .before .before .before .before .before .args .g)) (c .before .before .before .before .before .before .before .before .before .before .before .before .before .before .before .before .before .before .before .before .before .before .args .s))),
     )
 
 class-body-add-calls : (t : ℕ) → class-body-lts.Need-add-calls (class-body-uses t) (class-body-at t) class-body.Post
