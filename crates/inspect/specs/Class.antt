@@ -4,14 +4,15 @@ use mathlib.Core.Bool.{Bool, true, false, _&&_, _||_, not, cond}
 use mathlib.Core.Option.{none, some}
 use mathlib.Core.List.{List}
 use Prim.Native.Nat.{ℕ, suc, _+_, _-_, _/_, _%_, _<_, _≤_}
+use native.Mathlib.Omega.{arith}
 use lib.Dec.{eqb}
 use borrow.Author.Tests.{eq-eqb, ne-eqb}
 use lib.ListN.{length, getD}
-use Rattle.words.specs.Word.{bit0, bit1, children, childTable}
+use Rattle.words.specs.Word.{bit0, bit1, bit2, children, childTable}
 use Rattle.words.specs.Table.{lookup}
 use Rattle.records.specs.Forest.{end, node, takeF, dropF, appendF}
 use Rattle.records.specs.Label.{Label, Trees, is, bit, readAt, _∶_}
-use Rattle.records.specs.Place.{recordsAt, labelAt, kidsAt, endOf, records-past, record-one, kids-past}
+use Rattle.records.specs.Place.{recordsAt, labelAt, arityAt, kidsAt, endOf, end-add, records-past, record-one, kids-past}
 use Rattle.rewriting.specs.Parts.{isEmpty, decorators, parametersOf, indexed, ofParameters, roleOf, decoratorsOf, isConstructor, isMember, isDecoratedMember, isPlainKey, firstIsPlain, hasPlainKey, symbolIf, idOf, hasStatic, constructorDecorated, firstConstructor, bareMethod, bareFirst, isLive, classKids}
 use Rattle.inspect.specs.Row.{Test, anyRow, countRow, before, or-left, or-right, before-place, before-all, before-others, before-row, by-end}
 use Rattle.inspect.specs.Child.{SecondAt, arity-kind, kind-past, kind-within, kids-row}
@@ -195,6 +196,19 @@ module _ (ws : List ℕ) (at r : ℕ) (s : SecondAt ws at r) where
 
       past : length ws ≤ r → symbolIf (takeF 1 (recordsAt ws r)) ≡ none
       past l = ap (λ (f : Trees). symbolIf (takeF 1 f)) (records-past ws r l) ∙ (unfold symbolIf takeF in refl)
+
+-- ---- the body of a class, behind the 28, the id and the heritage that the flags say
+
+module _ (ws : List ℕ) (at : ℕ) (e : labelAt ws at .kind ≡ 26) where
+  body-count : arityAt ws at - 1 ≡ 1 + bit0 (labelAt ws at .payload) + bit2 (labelAt ws at .payload)
+  unfolding children childTable lookup
+  body-count = omega (arith, arity-kind ws at 26 e)
+
+  pub body-bare : bit2 (labelAt ws at .payload) ≡ 0 → endOf ws (at + 1) (arityAt ws at - 1) ≡ endOf ws (at + 1) (1 + bit0 (labelAt ws at .payload))
+  body-bare z = ap (endOf ws (at + 1)) (omega (arith, body-count, z))
+
+  pub body-inherited : bit2 (labelAt ws at .payload) ≡ 1 → endOf ws (at + 1) (arityAt ws at - 1) ≡ endOf ws (endOf ws (at + 1) (1 + bit0 (labelAt ws at .payload))) 1
+  body-inherited z = ap (endOf ws (at + 1)) (omega (arith, body-count, z)) ∙ end-add ws (at + 1) (1 + bit0 (labelAt ws at .payload)) 1
 
 -- ---- the class of a statement
 

@@ -3,8 +3,9 @@
 // the words end.
 ghost use mathlib.Core.Path.{_≡_};
 ghost use mathlib.Core.Bool.{not};
-ghost use Prim.Native.Nat.{_+_, _<_, _≤_};
-ghost use lib.ListN.{getD};
+ghost use Prim.Native.Nat.{_+_, _-_, _<_, _≤_};
+ghost use lib.ListN.{length, getD};
+ghost use Rattle.words.specs.Word.{bit0};
 ghost use Rattle.records.specs.Forest.{end, takeF, anyF};
 ghost use Rattle.records.specs.Label.{is, readAt, _∶_};
 ghost use Rattle.records.specs.Ends.{Ends};
@@ -432,6 +433,19 @@ pub fn class_id(ws: &[u32], notes: &[u32], at: usize) -> u32
         return NONE;
     }
     words::payload_of(w)
+}
+
+// The 29, by its place: behind the 28, the one word of an id and the heritage that the flags say.
+pub fn class_body(ws: &[u32], notes: &[u32], at: usize) -> usize
+    requires { ⌜ Ends (now ws) (now notes) 0 × (labelAt (now ws) at .kind ≡ 26) × (at + 1 < length (now ws)) × (endOf (now ws) (at + 1) (1 + bit0 (labelAt (now ws) at .payload)) ≡ endOf (now ws) (at + 1) 1 + bit0 (labelAt (now ws) at .payload)) × (endOf (now ws) (at + 1) (1 + bit0 (labelAt (now ws) at .payload)) < length (now ws)) ⌝ }
+    ensures { λ r. ⌜ r ≡ endOf (now (ws .entry)) (at + 1) (arityAt (now (ws .entry)) at - 1) ⌝ }
+{
+    let p = payload_at(ws, at);
+    let q = (notes[at + 1] / 65536) as usize + (p % 2) as usize;
+    if p / 4 % 2 == 0 {
+        return q;
+    }
+    (notes[q] / 65536) as usize
 }
 
 // Rule 2: is the class of a statement live?

@@ -12,7 +12,7 @@ ghost use Rattle.records.specs.Ends.{Ends};
 ghost use Rattle.records.specs.Place.{recordsAt, labelAt, kidsAt};
 ghost use Rattle.grammar.specs.Grammar.{module′};
 ghost use Rattle.grammar.specs.WellFormed.{Fits};
-ghost use Rattle.rewriting.specs.Parts.{anyRecord, isRefused7};
+ghost use Rattle.rewriting.specs.Parts.{anyRecord, isDecorated, isRefused7};
 ghost use Rattle.counter.specs.Contract.{markIn, Planned};
 ghost use Rattle.mark_table.specs.Marks.{takesAlias, isMarked, ClassMark, NoTest, PassedOver};
 
@@ -77,7 +77,7 @@ fn is_marked(ws: &[u32], notes: &[u32], i: usize, test: bool) -> bool
     let k = inspect::kind_at(ws, i);
     match k {
         4 => takes_alias(ws, notes, i),
-        26 => inspect::check_class_has_decorated(ws, notes, i),
+        26 => class_has_decorated(ws, notes, i),
         29 => inspect::any_member_decorated(ws, notes, i + 1, inspect::children_at(ws, i)),
         30 => inspect::member_decorated(ws, notes, i),
         31 => inspect::member_decorated(ws, notes, i),
@@ -85,6 +85,18 @@ fn is_marked(ws: &[u32], notes: &[u32], i: usize, test: bool) -> bool
         40 => test,
         _ => false,
     }
+}
+
+// Is the class at i decorated (rule 6)? Its 28 stands right behind it.
+fn class_has_decorated(ws: &[u32], notes: &[u32], i: usize) -> bool
+    requires { ⌜ (i < length (now ws)) × Ends (now ws) (now notes) 0 × Fits (module′ ∷ []) (recordsAt (now ws) 0) × (labelAt (now ws) i .kind ≡ 26) ⌝ }
+    ensures { λ r. ⌜ r ≡ isDecorated (kidsAt (now (ws .entry)) i) ⌝ }
+{
+    if inspect::payload_at(ws, i + 1) != 0 {
+        return true;
+    }
+    let b = inspect::class_body(ws, notes, i);
+    inspect::constructor_decorated(ws, notes, b + 1, inspect::children_at(ws, b))
 }
 
 // Does the class of the statement at i take an alias?

@@ -10,18 +10,18 @@ use Rattle.words.specs.Table.{lookup}
 use Rattle.words.specs.Word.{bit0, bit2, children, childTable}
 use Rattle.records.specs.Forest.{end, node, takeF, countF}
 use Rattle.records.specs.Label.{Label, Trees, arity}
-use Rattle.records.specs.Place.{recordsAt, labelAt, arityAt, kidsAt, endOf, end-add}
+use Rattle.records.specs.Place.{recordsAt, labelAt, arityAt, kidsAt, endOf}
 use Rattle.grammar.specs.Grammar.{Expression, module′, row, table, rowOf}
 use Rattle.grammar.specs.WellFormed.{Fits}
 use Rattle.rewriting.specs.Parts.{tree, roleOf, statement, decorators, isEmpty, elementsOf, idOf, constructorDecorated, isDecorated, isLive, classKids}
 use Rattle.rewriting.specs.Visit.{Around, State, Result, liveClassIf, liveClass, classIf, own, since, work, inside, entering, visit, visitOne}
 use Rattle.walk_laws.specs.Rows.{visitAt, fresh, after-add, kids-visit, plain-here, plain-calls}
-use Rattle.walk_laws.specs.ClassParts.{idSymbol, classParts, Without, IsId, class-elements, class-decorators, class-symbol}
+use Rattle.walk_laws.specs.ClassParts.{idSymbol, classParts, Without, IsId, class-elements, class-symbol}
 use Rattle.walk_laws.specs.Slots.{Standing, standing-at}
 use Rattle.walk_laws.specs.Default.{default-kept}
 use Rattle.walk_laws.specs.Roles.{role-4, plain-26}
 use Rattle.walk_laws.specs.Kinds.{kids-count, class-inside, class-kind, class-row-one, class-kids}
-use Rattle.walk_laws.specs.ClassPlaces.{heritageOf, bodyOf, idAt, first-place, first-kind, body-place, body-is, id-is, without-read, without-here, read-parts, heritageState, bodyState, here-parts, calls-parts, class-arity}
+use Rattle.walk_laws.specs.ClassPlaces.{no-29, heritageOf, bodyOf, idAt, first-place, first-kind, body-place, body-is, id-is, without-read, without-here, read-parts, read-decorators, read-elements, body-last, heritageState, bodyState, here-parts, calls-parts, class-arity}
 use Rattle.walk_laws.specs.First.{element-count}
 use Rattle.walk_laws.specs.ClassPlan.{rk, scope, heritageAt, bodyAt, atHeritage, atBody, atEnd, ds, els, queue}
 
@@ -94,10 +94,6 @@ module _ (ws : List ℕ) (whole : Fits (module′ ∷ []) (recordsAt ws 0)) (at 
   unfolding rowOf lookup table row
   no-27 e = omega arith
 
-  no-29 : rowOf 29 .category ≡ Expression → ⊥
-  unfolding rowOf lookup table row
-  no-29 e = omega arith
-
   -- as read
   abbrev read : Trees
   read = takeF (bit2 (labelAt ws (at + 1) .payload)) (recordsAt ws (heritageAt ws at))
@@ -113,26 +109,24 @@ module _ (ws : List ℕ) (whole : Fits (module′ ∷ []) (recordsAt ws 0)) (at 
   unfolding heritageAt heritageOf
   read-27 = without-read ws (at + 1) (at + 2) next class-stands class-is 27 no-27
 
-  read-29 : Without 29 read
-  unfolding heritageAt heritageOf
-  read-29 = without-read ws (at + 1) (at + 2) next class-stands class-is 29 no-29
-
   id-symbol : idOf (rk ws at) ≡ idSymbol (idAt ws (at + 1) (at + 2))
   id-symbol = ap idOf rk-parts ∙ class-symbol _ _ (idAt ws (at + 1) (at + 2)) read _ _ named read-27 body-kind
 
   pub own-decorators : decorators (rk ws at) ≡ kidsAt ws (at + 2)
-  own-decorators = ap decorators rk-parts ∙ class-decorators _ _ (idAt ws (at + 1) (at + 2)) read _ _ decorators-are body-kind named read-29
+  unfolding rk
+  own-decorators = read-decorators ws (at + 1) (at + 2) next class-stands class-is
 
   pub own-elements : elementsOf (rk ws at) ≡ kidsAt ws (bodyAt ws at)
-  own-elements = ap elementsOf rk-parts ∙ class-elements _ _ (idAt ws (at + 1) (at + 2)) read _ _ decorators-are body-kind named read-29
+  unfolding rk bodyAt heritageAt bodyOf heritageOf
+  own-elements = read-elements ws (at + 1) (at + 2) next class-stands class-is
 
   -- its body is its last child
   all-but-body : arityAt ws (at + 1) - 1 ≡ 1 + bit0 (labelAt ws (at + 1) .payload) + bit2 (labelAt ws (at + 1) .payload)
   all-but-body = omega (arith, class-arity ws (at + 1) (at + 2) next class-stands class-is)
 
   pub body-behind : endOf ws (at + 2) (arityAt ws (at + 1) - 1) ≡ bodyAt ws at
-  unfolding bodyAt heritageAt
-  body-behind = ap (endOf ws (at + 2)) all-but-body ∙ end-add ws (at + 2) (1 + bit0 (labelAt ws (at + 1) .payload)) (bit2 (labelAt ws (at + 1) .payload))
+  unfolding bodyAt heritageAt bodyOf heritageOf
+  body-behind = body-last ws (at + 1) (at + 2) next class-stands class-is
 
   elements-counted : labelAt ws (bodyAt ws at) .payload ≡ arityAt ws (bodyAt ws at)
   unfolding arityAt arity children childTable lookup

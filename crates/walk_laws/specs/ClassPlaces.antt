@@ -2,7 +2,7 @@
 use mathlib.Core.Path.{_≡_, refl, ap, sym, subst, _∙_}
 use mathlib.Core.Option.{Option, none, some}
 use mathlib.Core.List.{List, [], _∷_, _++_, append-nil}
-use Prim.Native.Nat.{ℕ, zero, suc, _+_, _<_}
+use Prim.Native.Nat.{ℕ, zero, suc, _+_, _-_, _<_}
 use native.Mathlib.Nat.{zero-add, suc-add}
 use native.Mathlib.Omega.{arith}
 use lib.Dec.{T}
@@ -11,20 +11,20 @@ use Rattle.words.specs.Table.{lookup}
 use Rattle.words.specs.Word.{bit0, bit2, children, childTable}
 use Rattle.records.specs.Forest.{end, node, takeF, dropF, appendF, takeF-add, takeF-end}
 use Rattle.records.specs.Label.{Label, Trees, arity}
-use Rattle.records.specs.Place.{recordsAt, labelAt, arityAt, kidsAt, endOf, end-drop, record-one}
-use Rattle.grammar.specs.Grammar.{Slot, slot, Expression, Decorators, expression, id, body, row, table, rowOf, slots, slotsBelow}
+use Rattle.records.specs.Place.{recordsAt, labelAt, arityAt, kidsAt, endOf, end-none, end-low, end-add, end-one, end-drop, record-one}
+use Rattle.grammar.specs.Grammar.{Slot, slot, Expression, Decorators, module′, expression, id, body, row, table, rowOf, slots, slotsBelow}
 use Rattle.grammar.specs.WellFormed.{Allowed, Fits}
 use Rattle.grammar.specs.Children.{allowed-sole}
 use Rattle.grammar.specs.Rows.{soleKind}
-use Rattle.rewriting.specs.Parts.{tree}
+use Rattle.rewriting.specs.Parts.{tree, decorators, elementsOf}
 use Rattle.rewriting.specs.Visit.{Around, State, Result, visit}
 use Rattle.walk_laws.specs.Rows.{visitAt, here-add, calls-add, kids-visit, plain-here, plain-calls}
-use Rattle.walk_laws.specs.Slots.{Standing, RowFits, kind-row, row-first}
+use Rattle.walk_laws.specs.Slots.{Standing, standing-at, RowFits, kind-row, row-first}
 use Rattle.walk_laws.specs.Single.{Stays, expression-stays}
 use Rattle.walk_laws.specs.Roles.{plain-27, plain-28, plain-29}
-use Rattle.walk_laws.specs.Elements.{decorators-kind, other-kind}
+use Rattle.walk_laws.specs.Elements.{Marked, decorators-kind, other-kind}
 use Rattle.walk_laws.specs.Quiet.{quiet, Quiet, quiet-replicate, row-quiet}
-use Rattle.walk_laws.specs.ClassParts.{idTree, classParts, Without, IsId}
+use Rattle.walk_laws.specs.ClassParts.{idTree, classParts, Without, IsId, class-elements, class-decorators}
 
 -- ---- rows
 
@@ -64,11 +64,13 @@ id-kind : (l : Label) → Allowed id l → l .kind ≡ 27
 unfolding soleKind lookup
 id-kind l a = allowed-sole id l a tt
 
+none-27 : (ws : List ℕ) (at : ℕ) → labelAt ws at .kind ≡ 27 → arityAt ws at ≡ 0
+unfolding arityAt arity
+none-27 ws at e = ap (λ (k : ℕ). children k (labelAt ws at .payload)) e ∙ (unfold children childTable lookup in refl)
+
 leaf-27 : (ws : List ℕ) (at : ℕ) → labelAt ws at .kind ≡ 27 → kidsAt ws at ≡ end
 unfolding kidsAt
-leaf-27 ws at e =
-    let z : arityAt ws at ≡ 0 = unfold arityAt arity in ap (λ (k : ℕ). children k (labelAt ws at .payload)) e ∙ (unfold children childTable lookup in refl) in
-    ap (λ (n : ℕ). takeF n (recordsAt ws (at + 1))) z ∙ (unfold takeF in refl)
+leaf-27 ws at e = ap (λ (n : ℕ). takeF n (recordsAt ws (at + 1))) (none-27 ws at e) ∙ (unfold takeF in refl)
 
 module _ (ws : List ℕ) (at : ℕ) where
   ids-are : (k : ℕ) → k < 2 → RowFits ws at k (replicate k id) → IsId (firstOf k (labelAt ws at))
@@ -96,6 +98,14 @@ module _ (ws : List ℕ) (at : ℕ) where
       ∙ (unfold visit in refl)
   ids-here (suc (suc k)) h f around s = absurd (omega arith)
 
+  -- where it ends
+  ids-end : (k : ℕ) → k < 2 → RowFits ws at k (replicate k id) → endOf ws at k ≡ at + k
+  ids-end zero h f = end-none ws at ∙ omega arith
+  ids-end (suc zero) h f =
+      let g = row-first ws at 0 id [] f in
+      end-one ws at (g .0) ∙ ap (endOf ws (at + 1)) (none-27 ws at (id-kind (labelAt ws at) (g .1))) ∙ end-none ws (at + 1)
+  ids-end (suc (suc k)) h f = absurd (omega arith)
+
 -- ---- the heritage: at most one expression
 
 -- it is of no kind that is no expression
@@ -116,6 +126,10 @@ module _ (ws : List ℕ) (at n : ℕ) (out : rowOf n .category ≡ Expression �
       let t : Stays (labelAt ws at) (visitAt ws at 1 around s .here) = expression-stays ws at expression around s (g .0) refl (g .1) in
       subst (Without n) (sym (t .whole)) (other-kind expression (labelAt ws at) n (g .1) out, tt)
   heritage-here (suc (suc k)) h f around s = absurd (omega arith)
+
+pub no-29 : rowOf 29 .category ≡ Expression → ⊥
+unfolding rowOf lookup table row
+no-29 e = omega arith
 
 -- ---- the children of the class at c, from the place f on
 
@@ -230,6 +244,28 @@ module _ (ws : List ℕ) (c f : ℕ) (fe : c + 1 ≡ f) (t : Standing ws c) (kin
       unfold heritageOf in read-add ws f (1 + bit0 p) (bit2 p + 1) in
       whole ∙ all ∙ cc (two, others) ∙ parts-join (labelAt ws f) (kidsAt ws f) (idAt ws c f) _ (labelAt ws (bodyOf ws c f)) (kidsAt ws (bodyOf ws c f))
 
+  pub read-decorators : decorators (kidsAt ws c) ≡ kidsAt ws f
+  read-decorators = ap decorators read-parts ∙ class-decorators _ _ (idAt ws c f) _ _ _ first-kind body-is id-is (without-read 29 no-29)
+
+  pub read-elements : elementsOf (kidsAt ws c) ≡ kidsAt ws (bodyOf ws c f)
+  read-elements = ap elementsOf read-parts ∙ class-elements _ _ (idAt ws c f) _ _ _ first-kind body-is id-is (without-read 29 no-29)
+
+  -- the id is one word
+  heritage-place : heritageOf ws c f ≡ endOf ws f 1 + bit0 (labelAt ws c .payload)
+  unfolding heritageOf
+  heritage-place = end-add ws f 1 (bit0 (labelAt ws c .payload)) ∙ ids-end ws (endOf ws f 1) (bit0 (labelAt ws c .payload)) (bit0-lt (labelAt ws c .payload)) (first .2)
+
+  heritage-in : heritageOf ws c f < length ws
+  unfolding bodyOf
+  heritage-in = omega (arith, body-place, end-low ws (heritageOf ws c f) (bit2 (labelAt ws c .payload)))
+
+  -- the body is the last child
+  pub body-last : endOf ws f (arityAt ws c - 1) ≡ bodyOf ws c f
+  unfolding bodyOf heritageOf
+  body-last =
+      let n : arityAt ws c - 1 ≡ 1 + bit0 (labelAt ws c .payload) + bit2 (labelAt ws c .payload) = omega (arith, class-arity) in
+      ap (endOf ws f) n ∙ end-add ws f (1 + bit0 (labelAt ws c .payload)) (bit2 (labelAt ws c .payload))
+
   -- as visited
   module _ (around : Around) (s : State) where
     -- the states in front of its heritage and in front of its body
@@ -282,3 +318,25 @@ module _ (ws : List ℕ) (c f : ℕ) (fe : c + 1 ≡ f) (t : Standing ws c) (kin
         ∙ calls-add ws around h (bit2 p) 1 heritageState
         ∙ ap (λ (g : Trees). appendF g (visitAt ws b 1 around bodyState .calls)) inherited
         ∙ plain-calls ws around b bodyState body-place (plain-29 (labelAt ws b) body-is)
+
+-- ---- any class of an accepted module
+
+module _ (ws : List ℕ) (whole : Fits (module′ ∷ []) (recordsAt ws 0)) (at : ℕ) (h : at < length ws) (kind : labelAt ws at .kind ≡ 26) where
+  stands : Standing ws at
+  stands = standing-at ws (module′ ∷ []) whole at h
+
+  -- its 28 stands right behind it
+  pub class-marked : Marked ws at
+  class-marked = record { place = first-place ws at (at + 1) refl stands kind; kind = first-kind ws at (at + 1) refl stands kind; count = omega (arith, class-arity ws at (at + 1) refl stands kind) }
+
+  -- its heritage stands behind the 28 and the one word of an id: what `inspect::class_body` asks for
+  pub class-heritage : (endOf ws (at + 1) (1 + bit0 (labelAt ws at .payload)) ≡ endOf ws (at + 1) 1 + bit0 (labelAt ws at .payload)) ×
+      (endOf ws (at + 1) (1 + bit0 (labelAt ws at .payload)) < length ws)
+  class-heritage = unfold heritageOf in (heritage-place ws at (at + 1) refl stands kind, heritage-in ws at (at + 1) refl stands kind)
+
+  -- its body is its last child
+  pub class-body : (endOf ws (at + 1) (arityAt ws at - 1) < length ws) × (labelAt ws (endOf ws (at + 1) (arityAt ws at - 1)) .kind ≡ 29) ×
+      (kidsAt ws (endOf ws (at + 1) (arityAt ws at - 1)) ≡ elementsOf (kidsAt ws at))
+  class-body =
+      rw (body-last ws at (at + 1) refl stands kind)
+      (body-place ws at (at + 1) refl stands kind, body-is ws at (at + 1) refl stands kind, sym (read-elements ws at (at + 1) refl stands kind))

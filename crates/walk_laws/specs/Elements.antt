@@ -4,21 +4,23 @@ use mathlib.Core.Bool.{true, false}
 use mathlib.Core.List.{List, [], _∷_, _++_, append-nil}
 use Prim.Native.Nat.{ℕ, suc, _+_, _-_, _<_}
 use native.Mathlib.Omega.{arith}
+use lib.Dec.{eqb}
 use lib.ListN.{length, replicate}
 use borrow.Author.Tests.{ne-eqb}
 use Rattle.words.specs.Table.{lookup}
-use Rattle.words.specs.Word.{bit1, bit2}
-use Rattle.records.specs.Forest.{end, node, takeF, dropF, appendF}
-use Rattle.records.specs.Label.{Label, Trees, repay, is}
+use Rattle.words.specs.Word.{bit1, bit2, children, childTable}
+use Rattle.records.specs.Forest.{end, node, takeF, dropF, appendF, countF}
+use Rattle.records.specs.Label.{Label, Trees, arity, repay, is}
 use Rattle.records.specs.Place.{recordsAt, labelAt, arityAt, kidsAt, endOf, end-add, end-one, records-first}
 use Rattle.grammar.specs.Grammar.{Slot, slot, Decorators, Parameters, Parameter, module′, methodDecorators, parameterDecorators, key, methodParameters, code, expression, element, parameterOf, table, row, rowOf, slots, slotsBelow, expressions}
 use Rattle.grammar.specs.WellFormed.{Allowed, Fits}
 use Rattle.grammar.specs.Children.{allowed-sole}
 use Rattle.grammar.specs.Rows.{soleKind, allowed-row}
-use Rattle.rewriting.specs.Parts.{tree, kidsOf, changeKids, decorators, undecorate, parametersOf, bareParameters, bareMethod, isMember, isPlainKey, firstIsPlain, hasPlainKey}
+use Rattle.rewriting.specs.Parts.{tree, isEmpty, kidsOf, changeKids, decorators, undecorate, parametersOf, bareParameters, bareMethod, isMember, isPlainKey, firstIsPlain, hasPlainKey}
 use Rattle.rewriting.specs.Visit.{Around, State, Result, visit}
 use Rattle.walk_laws.specs.Rows.{visitAt, here-add, after-add, kids-visit, plain-here, plain-after}
 use Rattle.walk_laws.specs.Slots.{Standing, standing-at, RowFits, kind-row, same-row, row-first}
+use Rattle.walk_laws.specs.Kinds.{kids-count}
 use Rattle.walk_laws.specs.Single.{Stays, expression-stays, row-nth}
 use Rattle.walk_laws.specs.Roles.{Sort, isMethod, isProperty, isAccessor, member-sort, is-kind, is-other, plain-28, plain-36, plain-37}
 
@@ -154,13 +156,21 @@ module _ (ws : List ℕ) (at : ℕ) where
         let r = kind-row ws at 30 here _ e (below-30 (here .slot) (labelAt ws at .payload)) in
         called (bit1 (labelAt ws at .payload)) (replicate (bit2 (labelAt ws at .payload)) code ++ []) (r .0) (r .1)
 
+    pub property-keyed : labelAt ws at .kind ≡ 31 → Keyed ws at
+    property-keyed e =
+        let r = kind-row ws at 31 here _ e (below-31 (here .slot) (labelAt ws at .payload)) in
+        keyed 0 (replicate (bit1 (labelAt ws at .payload)) expression ++ []) (r .0) (r .1)
+
+    pub accessor-keyed : labelAt ws at .kind ≡ 32 → Keyed ws at
+    accessor-keyed e = let r = kind-row ws at 32 here _ e (below-32 (here .slot) (labelAt ws at .payload)) in keyed 0 [] (r .0) (r .1)
+
     pub member-keyed : isMember (labelAt ws at) ≡ true → Keyed ws at
     member-keyed m = go (member-sort (labelAt ws at) m)
       where
         go : Sort (labelAt ws at) → Keyed ws at
         go (isMethod e r) = method-called e .keyed
-        go (isProperty e r) = let r = kind-row ws at 31 here _ e (below-31 (here .slot) (labelAt ws at .payload)) in keyed 0 (replicate (bit1 (labelAt ws at .payload)) expression ++ []) (r .0) (r .1)
-        go (isAccessor e r) = let r = kind-row ws at 32 here _ e (below-32 (here .slot) (labelAt ws at .payload)) in keyed 0 [] (r .0) (r .1)
+        go (isProperty e r) = property-keyed e
+        go (isAccessor e r) = accessor-keyed e
 
 -- does the key give a name as it stands
 pub key-plain : (ws : List ℕ) (at : ℕ) → Keyed ws at → hasPlainKey (kidsAt ws at) ≡ isPlainKey (labelAt ws (keyAt ws at))
@@ -170,6 +180,22 @@ key-plain ws at y =
     ap (λ (m : ℕ). hasPlainKey (takeF m (recordsAt ws (at + 1)))) n
     ∙ ap hasPlainKey (records-first ws (at + 1) (suc (arityAt ws at - 2)) (y .marked .place))
     ∙ ap firstIsPlain (records-first ws (endOf ws (at + 1) 1) (arityAt ws at - 2) (y .place))
+
+-- ---- numbers of children
+
+empty-count : (f : Trees) → isEmpty f ≡ eqb (countF f) 0
+unfolding isEmpty countF
+empty-count end = refl
+empty-count (node l k r) = sym (ne-eqb (suc (countF r)) 0 λ e. omega (arith, e))
+
+module _ (ws : List ℕ) (at : ℕ) where
+  counted-28 : labelAt ws at .kind ≡ 28 → arityAt ws at ≡ labelAt ws at .payload
+  unfolding arityAt arity children childTable lookup
+  counted-28 e = rw e
+
+  pub counted-36 : labelAt ws at .kind ≡ 36 → arityAt ws at ≡ labelAt ws at .payload
+  unfolding arityAt arity children childTable lookup
+  counted-36 e = rw e
 
 -- ---- parts of children that begin with a 28
 
@@ -191,6 +217,31 @@ module _ (d c p : Label) (x y z w : Trees) (e : d .kind ≡ 28) (n : is 36 c ≡
   bare-third : bareMethod (node d x (node c y (node p z w))) ≡ node (repay d 0) end (node c y (node p (bareParameters z) w))
   unfolding bareMethod changeKids
   bare-third = rw (is-other d 28 36 e refl, n, is-kind p 36 h) (undecorate-first d x (node c y (node p (bareParameters z) w)) e)
+
+-- by place, as read
+module _ (ws : List ℕ) (at : ℕ) where
+  pub marked-read : Marked ws at → decorators (kidsAt ws at) ≡ kidsAt ws (at + 1)
+  unfolding kidsAt
+  marked-read m =
+      let n : arityAt ws at ≡ suc (arityAt ws at - 1) = omega (arith, m .count) in
+      ap (λ (j : ℕ). decorators (takeF j (recordsAt ws (at + 1)))) n ∙ ap decorators (records-first ws (at + 1) (arityAt ws at - 1) (m .place)) ∙ decorators-first _ _ _ (m .kind)
+
+  pub called-read : Called ws at → parametersOf (kidsAt ws at) ≡ kidsAt ws (endOf ws (at + 1) 2)
+  unfolding kidsAt keyAt parametersAt
+  called-read c =
+      let n : arityAt ws at ≡ suc (suc (suc (arityAt ws at - 3))) = omega (arith, c .count, c .keyed .count, c .keyed .marked .count) in
+      let third = records-first ws (parametersAt ws at) (arityAt ws at - 3) (c .place) in
+      let second = records-first ws (keyAt ws at) (suc (arityAt ws at - 3)) (c .keyed .place) ∙ ap (node (labelAt ws (keyAt ws at)) (kidsAt ws (keyAt ws at))) third in
+      let row = records-first ws (at + 1) (suc (suc (arityAt ws at - 3))) (c .keyed .marked .place) ∙ ap (node (labelAt ws (at + 1)) (kidsAt ws (at + 1))) second in
+      ap (λ (j : ℕ). parametersOf (takeF j (recordsAt ws (at + 1)))) n ∙ ap parametersOf row
+      ∙ parameters-third _ _ _ _ _ _ _ (c .keyed .marked .kind) (key-other (labelAt ws (keyAt ws at)) (c .keyed .slot)) (c .kind)
+      ∙ ap (kidsAt ws) (sym (end-add ws (at + 1) 1 1))
+
+  -- the payload of its 28 says whether there are decorators
+  pub marked-empty : Fits (module′ ∷ []) (recordsAt ws 0) → Marked ws at → isEmpty (decorators (kidsAt ws at)) ≡ eqb (labelAt ws (at + 1) .payload) 0
+  marked-empty whole m =
+      ap isEmpty (marked-read m) ∙ empty-count (kidsAt ws (at + 1))
+      ∙ ap (λ (n : ℕ). eqb n 0) (kids-count ws whole (at + 1) (m .place) ∙ counted-28 ws (at + 1) (m .kind))
 
 -- ---- as visited
 

@@ -14,8 +14,8 @@ kind-at-requires c κs = search needs
 takes-alias-requires : tie.Need-takes-alias-requires
 takes-alias-requires c κs = (c .before .before .before .before .pre .0, c .before .before .before .before .pre .1, c .before .before .before .before .pre .2, c .before .before .before .before .pre .3, sym (c .before .kind-at .ensures) ∙ c .match .keys1)
 
-check-class-has-decorated-requires : tie.Need-check-class-has-decorated-requires
-check-class-has-decorated-requires c κs = c .before .before .before .before .pre .1
+class-has-decorated-requires : tie.Need-class-has-decorated-requires
+class-has-decorated-requires c κs = (c .before .before .before .before .pre .0, c .before .before .before .before .pre .1, c .before .before .before .before .pre .2, sym (c .before .kind-at .ensures) ∙ c .match .keys2)
 
 add-any-member-decorated : tie.Need-add-any-member-decorated
 add-any-member-decorated c = search needs
@@ -43,7 +43,7 @@ returns c =
 returns-2 : tie.Need-returns-2
 returns-2 c =
     let k = sym (c .before .before .kind-at .ensures) ∙ c .before .match .keys2 in
-    c .check-class-has-decorated .ensures ∙ sym (marked-other (c .before .before .before .before .before .args .ws .now) (c .before .before .before .before .before .args .i) (c .before .before .before .before .before .args .test) (λ e. omega (arith, k, e)) ∙ marked-class (c .before .before .before .before .before .args .ws .now) (c .before .before .before .before .before .args .i) k)
+    c .class-has-decorated .ensures ∙ sym (marked-other (c .before .before .before .before .before .args .ws .now) (c .before .before .before .before .before .args .i) (c .before .before .before .before .before .args .test) (λ e. omega (arith, k, e)) ∙ marked-class (c .before .before .before .before .before .args .ws .now) (c .before .before .before .before .before .args .i) k)
 
 returns-3 : tie.Need-returns-3
 unfolding kidsAt
@@ -81,7 +81,7 @@ is-marked-spec =
     (tie.spec
     kind-at-requires
     takes-alias-requires
-    check-class-has-decorated-requires
+    class-has-decorated-requires
     add-any-member-decorated
     children-at-requires
     any-member-decorated-requires
