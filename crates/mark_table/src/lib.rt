@@ -12,7 +12,7 @@ ghost use Rattle.records.specs.Ends.{Ends};
 ghost use Rattle.records.specs.Place.{recordsAt, labelAt, kidsAt};
 ghost use Rattle.grammar.specs.Grammar.{module′};
 ghost use Rattle.grammar.specs.WellFormed.{Fits};
-ghost use Rattle.rewriting.specs.Parts.{anyRecord, isDecorated, isRefused7};
+ghost use Rattle.rewriting.specs.Parts.{anyRecord, isDecorated, isDecoratedMember, isRefused7};
 ghost use Rattle.counter.specs.Contract.{markIn, Planned};
 ghost use Rattle.mark_table.specs.Marks.{takesAlias, isMarked, ClassMark, NoTest, PassedOver};
 
@@ -79,9 +79,9 @@ fn is_marked(ws: &[u32], notes: &[u32], i: usize, test: bool) -> bool
         4 => takes_alias(ws, notes, i),
         26 => class_has_decorated(ws, notes, i),
         29 => inspect::any_member_decorated(ws, notes, i + 1, inspect::children_at(ws, i)),
-        30 => inspect::member_decorated(ws, notes, i),
-        31 => inspect::member_decorated(ws, notes, i),
-        32 => inspect::member_decorated(ws, notes, i),
+        30 => method_has_decorated(ws, notes, i),
+        31 => inspect::payload_at(ws, i + 1) != 0,
+        32 => inspect::payload_at(ws, i + 1) != 0,
         40 => test,
         _ => false,
     }
@@ -97,6 +97,21 @@ fn class_has_decorated(ws: &[u32], notes: &[u32], i: usize) -> bool
     }
     let b = inspect::class_body(ws, notes, i);
     inspect::constructor_decorated(ws, notes, b + 1, inspect::children_at(ws, b))
+}
+
+// Is the method at i decorated (rule 3), its parameters included? Its 36 stands behind its 28 and its key.
+fn method_has_decorated(ws: &[u32], notes: &[u32], i: usize) -> bool
+    requires { ⌜ (i < length (now ws)) × Ends (now ws) (now notes) 0 × Fits (module′ ∷ []) (recordsAt (now ws) 0) × (labelAt (now ws) i .kind ≡ 30) ⌝ }
+    ensures { λ r. ⌜ r ≡ isDecoratedMember (labelAt (now (ws .entry)) i) (kidsAt (now (ws .entry)) i) ⌝ }
+{
+    if inspect::is_constructor(inspect::word_at(ws, i)) {
+        return false;
+    }
+    if inspect::payload_at(ws, i + 1) != 0 {
+        return true;
+    }
+    let p = records::behind(ws, notes, i + 1, 2);
+    inspect::any_decorated(ws, notes, p + 1, inspect::payload_at(ws, p) as usize)
 }
 
 // Does the class of the statement at i take an alias?

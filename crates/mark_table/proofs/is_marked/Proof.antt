@@ -1,9 +1,13 @@
 -- `is_marked`: by the kind.
 use Rattle.mark_table.specs.Marks.{marked-statement, marked-class, marked-body, marked-member, marked-other, marked-symbols}
+use Rattle.mark_table.specs.Places.{property-own, accessor-own}
 use Rattle.inspect.specs.Class.{member-other}
 use Rattle.records.specs.Place.{kidsAt}
 use native.Mathlib.Omega.{arith}
-use mathlib.Core.Path.{sym, _∙_}
+use mathlib.Core.Path.{ap, sym, _∙_}
+use mathlib.Core.Bool.{not}
+use Prim.Native.Nat.{ℕ}
+use lib.Dec.{eqb}
 use borrow.Author.Needs.{needs}
 use Rattle.mark_table.proofs.is_marked.Statement.{statement}
 use Rattle.mark_table.proofs.is_marked.Tie as tie
@@ -12,10 +16,10 @@ kind-at-requires : tie.Need-kind-at-requires
 kind-at-requires c κs = search needs
 
 takes-alias-requires : tie.Need-takes-alias-requires
-takes-alias-requires c κs = (c .before .before .before .before .pre .0, c .before .before .before .before .pre .1, c .before .before .before .before .pre .2, c .before .before .before .before .pre .3, sym (c .before .kind-at .ensures) ∙ c .match .keys1)
+takes-alias-requires c κs = search needs
 
 class-has-decorated-requires : tie.Need-class-has-decorated-requires
-class-has-decorated-requires c κs = (c .before .before .before .before .pre .0, c .before .before .before .before .pre .1, c .before .before .before .before .pre .2, sym (c .before .kind-at .ensures) ∙ c .match .keys2)
+class-has-decorated-requires c κs = search needs
 
 add-any-member-decorated : tie.Need-add-any-member-decorated
 add-any-member-decorated c = search needs
@@ -24,16 +28,22 @@ children-at-requires : tie.Need-children-at-requires
 children-at-requires c κs = search needs
 
 any-member-decorated-requires : tie.Need-any-member-decorated-requires
-any-member-decorated-requires c κs = c .before .before .before .before .before .pre .1
+any-member-decorated-requires c κs = search needs
 
-member-decorated-requires : tie.Need-member-decorated-requires
-member-decorated-requires c κs = c .before .before .before .before .pre .1
+method-has-decorated-requires : tie.Need-method-has-decorated-requires
+method-has-decorated-requires c κs = search needs
 
-member-decorated-requires-2 : tie.Need-member-decorated-requires-2
-member-decorated-requires-2 c κs = c .before .before .before .before .pre .1
+add-payload-at : tie.Need-add-payload-at
+add-payload-at c = search needs
 
-member-decorated-requires-3 : tie.Need-member-decorated-requires-3
-member-decorated-requires-3 c κs = c .before .before .before .before .pre .1
+payload-at-requires : tie.Need-payload-at-requires
+payload-at-requires c κs = search needs
+
+add-payload-at-2 : tie.Need-add-payload-at-2
+add-payload-at-2 c = search needs
+
+payload-at-requires-2 : tie.Need-payload-at-requires-2
+payload-at-requires-2 c κs = search needs
 
 returns : tie.Need-returns
 returns c =
@@ -54,17 +64,17 @@ returns-3 c =
 returns-4 : tie.Need-returns-4
 returns-4 c =
     let k = sym (c .before .before .kind-at .ensures) ∙ c .before .match .keys4 in
-    c .member-decorated .ensures ∙ sym (marked-other (c .before .before .before .before .before .args .ws .now) (c .before .before .before .before .before .args .i) (c .before .before .before .before .before .args .test) (λ e. omega (arith, k, e)) ∙ marked-member (c .before .before .before .before .before .args .ws .now) (c .before .before .before .before .before .args .i) (λ e. omega (arith, k, e)) (λ e. omega (arith, k, e)) (λ e. omega (arith, k, e)))
+    c .method-has-decorated .ensures ∙ sym (marked-other (c .before .before .before .before .before .args .ws .now) (c .before .before .before .before .before .args .i) (c .before .before .before .before .before .args .test) (λ e. omega (arith, k, e)) ∙ marked-member (c .before .before .before .before .before .args .ws .now) (c .before .before .before .before .before .args .i) (λ e. omega (arith, k, e)) (λ e. omega (arith, k, e)) (λ e. omega (arith, k, e)))
 
 returns-5 : tie.Need-returns-5
 returns-5 c =
     let k = sym (c .before .before .kind-at .ensures) ∙ c .before .match .keys5 in
-    c .member-decorated2 .ensures ∙ sym (marked-other (c .before .before .before .before .before .args .ws .now) (c .before .before .before .before .before .args .i) (c .before .before .before .before .before .args .test) (λ e. omega (arith, k, e)) ∙ marked-member (c .before .before .before .before .before .args .ws .now) (c .before .before .before .before .before .args .i) (λ e. omega (arith, k, e)) (λ e. omega (arith, k, e)) (λ e. omega (arith, k, e)))
+    ap (λ (n : ℕ). not (eqb n 0)) (c .payload-at .ensures .0) ∙ sym (property-own (c .before .before .before .before .before .args .ws .now) (c .before .before .before .before .before .pre .2) (c .before .before .before .before .before .args .i) (c .before .before .before .before .before .pre .0) k) ∙ sym (marked-other (c .before .before .before .before .before .args .ws .now) (c .before .before .before .before .before .args .i) (c .before .before .before .before .before .args .test) (λ e. omega (arith, k, e)) ∙ marked-member (c .before .before .before .before .before .args .ws .now) (c .before .before .before .before .before .args .i) (λ e. omega (arith, k, e)) (λ e. omega (arith, k, e)) (λ e. omega (arith, k, e)))
 
 returns-6 : tie.Need-returns-6
 returns-6 c =
     let k = sym (c .before .before .kind-at .ensures) ∙ c .before .match .keys6 in
-    c .member-decorated3 .ensures ∙ sym (marked-other (c .before .before .before .before .before .args .ws .now) (c .before .before .before .before .before .args .i) (c .before .before .before .before .before .args .test) (λ e. omega (arith, k, e)) ∙ marked-member (c .before .before .before .before .before .args .ws .now) (c .before .before .before .before .before .args .i) (λ e. omega (arith, k, e)) (λ e. omega (arith, k, e)) (λ e. omega (arith, k, e)))
+    ap (λ (n : ℕ). not (eqb n 0)) (c .payload-at2 .ensures .0) ∙ sym (accessor-own (c .before .before .before .before .before .args .ws .now) (c .before .before .before .before .before .pre .2) (c .before .before .before .before .before .args .i) (c .before .before .before .before .before .pre .0) k) ∙ sym (marked-other (c .before .before .before .before .before .args .ws .now) (c .before .before .before .before .before .args .i) (c .before .before .before .before .before .args .test) (λ e. omega (arith, k, e)) ∙ marked-member (c .before .before .before .before .before .args .ws .now) (c .before .before .before .before .before .args .i) (λ e. omega (arith, k, e)) (λ e. omega (arith, k, e)) (λ e. omega (arith, k, e)))
 
 returns-7 : tie.Need-returns-7
 returns-7 c = sym (marked-symbols (c .before .before .before .before .args .ws .now) (c .before .before .before .before .args .i) (c .before .before .before .before .args .test) (sym (c .before .kind-at .ensures) ∙ c .match .keys7))
@@ -85,9 +95,11 @@ is-marked-spec =
     add-any-member-decorated
     children-at-requires
     any-member-decorated-requires
-    member-decorated-requires
-    member-decorated-requires-2
-    member-decorated-requires-3
+    method-has-decorated-requires
+    add-payload-at
+    payload-at-requires
+    add-payload-at-2
+    payload-at-requires-2
     returns
     returns-2
     returns-3
