@@ -220,7 +220,7 @@ pub fn is_constructor(w: u32) -> bool
 }
 
 // Rule 3: is the element at `at` a member with decorators, its parameters' included?
-pub fn member_decorated(ws: &[u32], notes: &[u32], at: usize) -> bool
+fn member_decorated(ws: &[u32], notes: &[u32], at: usize) -> bool
     requires { ⌜ Ends (now ws) (now notes) 0 ⌝ }
     ensures { λ r. ⌜ r ≡ isDecoratedMember (labelAt (now (ws .entry)) at) (kidsAt (now (ws .entry)) at) ⌝ }
 {
@@ -378,26 +378,6 @@ pub fn first_constructor_decorated(ws: &[u32], notes: &[u32], at: usize, k: usiz
         return false;
     }
     class_method_parameter_is_decorated(ws, notes, records::behind(ws, notes, at, j))
-}
-
-// Rule 3: is there a decorated member?
-pub fn any_member_decorated(ws: &[u32], notes: &[u32], at: usize, k: usize) -> bool
-    requires { ⌜ Ends (now ws) (now notes) 0 ⌝ }
-    ensures { λ r. ⌜ r ≡ anyRow isDecoratedMember (takeF k (recordsAt (now (ws .entry)) at)) ⌝ }
-{
-    let mut q = at;
-    let mut i = 0;
-    while i < k {
-        if ws.len() <= q {
-            return false;
-        }
-        if member_decorated(ws, notes, q) {
-            return true;
-        }
-        q = records::behind(ws, notes, q, 1);
-        i += 1;
-    }
-    false
 }
 
 // The number of decorated members.

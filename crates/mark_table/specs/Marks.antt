@@ -15,8 +15,8 @@ use Rattle.words.specs.Shape.{bitOf}
 use Rattle.records.specs.Forest.{end, node, takeF, anyF}
 use Rattle.records.specs.Label.{Label, Trees, is}
 use Rattle.records.specs.Ends.{Ends, ends-set}
-use Rattle.records.specs.Place.{recordsAt, labelAt, kidsAt, records-node, records-past}
-use Rattle.grammar.specs.Grammar.{module′, symbols, ownStatement, slotsBelow, slots, rowOf, table, row}
+use Rattle.records.specs.Place.{recordsAt, labelAt, arityAt, kidsAt, endOf, end-low, records-node, records-past}
+use Rattle.grammar.specs.Grammar.{module′, symbols, ownStatement, element, slotsBelow, slots, rowOf, table, row}
 use Rattle.grammar.specs.WellFormed.{Allowed, Fits}
 use Rattle.grammar.specs.Children.{allowed-sole}
 use Rattle.grammar.specs.Rows.{soleKind}
@@ -29,6 +29,9 @@ use Rattle.inspect.specs.Class.{member-other}
 use Rattle.walk_laws.specs.Rows.{visitAt, fresh, kids-visit}
 use Rattle.walk_laws.specs.After.{mentioned}
 use Rattle.walk_laws.specs.Slots.{Standing, standing-at, kind-row, row-first}
+use Rattle.walk_laws.specs.Single.{row-nth}
+use Rattle.walk_laws.specs.Elements.{other-kind}
+use Rattle.walk_laws.specs.First.{elements-row}
 use Rattle.walk_laws.specs.ClassPlan.{rk, scope, bodyAt, atHeritage, atBody, els}
 use Rattle.walk_laws.specs.ClassFacts.{body-in, own-elements, elements-visited}
 use Rattle.alias_search.specs.Mentions.{isSymbol, mentions}
@@ -54,6 +57,15 @@ unfoldable pub isMarked : List ℕ → ℕ → Bool
 isMarked ws at =
     takesAlias ws at || (is 26 (labelAt ws at) && isDecorated (kidsAt ws at)) || (is 29 (labelAt ws at) && anyRow isDecoratedMember (kidsAt ws at)) ||
     isDecoratedMember (labelAt ws at) (kidsAt ws at)
+
+-- the marks of the places from i on are right, a 40's left out
+abbrev pub MarksFrom : List ℕ → List ℕ → ℕ → Type 0
+MarksFrom ws notes i = (j : ℕ) → i ≤ j → j < length ws → (labelAt ws j .kind ≡ 40 → ⊥) → markIn (getD notes j 0) ≡ isMarked ws j
+
+-- so are those of the k elements at `at`
+unfoldable pub ElementMarks : List ℕ → List ℕ → ℕ → ℕ → Type 0
+ElementMarks ws notes at k =
+    (j : ℕ) → j < k → endOf ws at j < length ws → markIn (getD notes (endOf ws at j) 0) ≡ isDecoratedMember (labelAt ws (endOf ws at j)) (kidsAt ws (endOf ws at j))
 
 -- the mark of a class that stands at i is right
 unfoldable pub ClassMark : List ℕ → List ℕ → ℕ → Type 0
@@ -220,7 +232,7 @@ pub record Done (ws notes : List ℕ) (m i : ℕ) (test refused : Bool) : Type 0
   pub long : length notes ≡ m
   pub low : i ≤ length ws
   pub ends : Ends ws notes 0
-  pub right : (j : ℕ) → i ≤ j → j < length ws → (labelAt ws j .kind ≡ 40 → ⊥) → markIn (getD notes j 0) ≡ isMarked ws j
+  pub right : MarksFrom ws notes i
   pub tests : (j : ℕ) → i ≤ j → j < length ws → labelAt ws j .kind ≡ 40 → NoTest ws j (markIn (getD notes j 0))
   pub seen : NoTest ws i test
   pub seven : refused ≡ anyRecord isRefused7 (recordsAt ws i)
@@ -240,9 +252,29 @@ done-start {ws} e = record {
 pub done-down : {ws notes : List ℕ} {m i : ℕ} {test refused : Bool} → Done ws notes m i test refused → (i ≡ 0 → ⊥) → Done ws notes m (i - 1 + 1) test refused
 done-down {ws} {notes} {m} {i} {test} {refused} d h = let e : i ≡ i - 1 + 1 = omega (arith, h) in subst (λ (j : ℕ). Done ws notes m j test refused) e d
 
-pub done-class : {ws notes : List ℕ} {m i : ℕ} {test refused : Bool} → Done ws notes m i test refused → ClassMark ws notes i
-unfolding ClassMark
-done-class {ws} {notes} {m} {i} d h kind = d .right i (omega arith) h (λ g. omega (arith, kind, g)) ∙ marked-class ws i kind
+-- what the marks of the places behind give
+module _ (ws notes : List ℕ) where
+  pub marks-class : (i : ℕ) → MarksFrom ws notes i → ClassMark ws notes i
+  unfolding ClassMark
+  marks-class i m h kind = m i (omega arith) h (λ g. omega (arith, kind, g)) ∙ marked-class ws i kind
+
+  -- a body's elements are of none of the kinds whose marks say something else
+  pub marks-elements : (i : ℕ) → Fits (module′ ∷ []) (recordsAt ws 0) → i < length ws → labelAt ws i .kind ≡ 29 → MarksFrom ws notes (i + 1) → ElementMarks ws notes (i + 1) (arityAt ws i)
+  unfolding ElementMarks rowOf lookup table row
+  marks-elements i whole h kind m j l g =
+      m (endOf ws (i + 1) j) (end-low ws (i + 1) j) g (other 40 λ e. omega arith)
+      ∙ marked-member ws (endOf ws (i + 1) j) (other 4 λ e. omega arith) (other 26 λ e. omega arith) (other 29 λ e. omega arith)
+    where
+      stands : Allowed element (labelAt ws (endOf ws (i + 1) j))
+      stands = row-nth ws (i + 1) (arityAt ws i) j element (elements-row ws i (standing-at ws (module′ ∷ []) whole i h) kind) l .1
+
+      other : (k : ℕ) → (rowOf k .category ≡ element .category → ⊥) → labelAt ws (endOf ws (i + 1) j) .kind ≡ k → ⊥
+      other k n = eqb-false (labelAt ws (endOf ws (i + 1) j) .kind) k (unfold is in other-kind element (labelAt ws (endOf ws (i + 1) j)) k stands n)
+
+  -- the n-th element, which stands at q
+  pub element-mark : (at k q n : ℕ) → ElementMarks ws notes at k → q ≡ endOf ws at n → n < k → q < length ws → markIn (getD notes q 0) ≡ isDecoratedMember (labelAt ws q) (kidsAt ws q)
+  unfolding ElementMarks
+  element-mark at k q n m e l g = subst (λ (p : ℕ). p < length ws → markIn (getD notes p 0) ≡ isDecoratedMember (labelAt ws p) (kidsAt ws p)) (sym e) (m n l) g
 
 pub done-next : {ws notes : List ℕ} {m i : ℕ} {test refused : Bool} (v : ℕ) (b r : Bool) → Done ws notes m (i + 1) test refused → NoTest ws i b →
     r ≡ anyRecord isRefused7 (recordsAt ws i) → v / 65536 ≡ getD notes i 0 / 65536 → markIn v ≡ (isMarked ws i || (is 40 (labelAt ws i) && b)) → Done ws (set notes i v) m i b r

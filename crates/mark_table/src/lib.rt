@@ -7,14 +7,16 @@ ghost use mathlib.Core.List.{[], _∷_};
 ghost use Prim.Native.Nat.{_+_, _/_, _<_};
 ghost use lib.ListN.{length};
 ghost use Rattle.words.specs.Word.{kindOf};
+ghost use Rattle.records.specs.Forest.{takeF};
 ghost use Rattle.records.specs.Label.{is};
 ghost use Rattle.records.specs.Ends.{Ends};
 ghost use Rattle.records.specs.Place.{recordsAt, labelAt, kidsAt};
 ghost use Rattle.grammar.specs.Grammar.{module′};
 ghost use Rattle.grammar.specs.WellFormed.{Fits};
 ghost use Rattle.rewriting.specs.Parts.{anyRecord, isDecorated, isDecoratedMember, isRefused7};
+ghost use Rattle.inspect.specs.Row.{anyRow};
 ghost use Rattle.counter.specs.Contract.{markIn, Planned};
-ghost use Rattle.mark_table.specs.Marks.{takesAlias, isMarked, ClassMark, NoTest, PassedOver};
+ghost use Rattle.mark_table.specs.Marks.{takesAlias, isMarked, MarksFrom, ElementMarks, ClassMark, NoTest, PassedOver};
 
 // The kinds that a mark or refusal 7 asks for: bit k for the kind k.
 const ASKED: u64 = 1 << 4 | 1 << 19 | 1 << 26 | 1 << 29 | 1 << 30 | 1 << 31 | 1 << 32 | 1 << 40;
@@ -69,16 +71,16 @@ fn with_mark(w: u32, mark: bool) -> u32
     e
 }
 
-// The mark of the record at i, where that of a class right behind it is known; test: is there a private-in test?
+// The mark of the record at i, where those of the places behind it are known; test: is there a private-in test?
 fn is_marked(ws: &[u32], notes: &[u32], i: usize, test: bool) -> bool
-    requires { ⌜ (i < length (now ws)) × Ends (now ws) (now notes) 0 × Fits (module′ ∷ []) (recordsAt (now ws) 0) × ClassMark (now ws) (now notes) (i + 1) ⌝ }
+    requires { ⌜ (i < length (now ws)) × Ends (now ws) (now notes) 0 × Fits (module′ ∷ []) (recordsAt (now ws) 0) × MarksFrom (now ws) (now notes) (i + 1) ⌝ }
     ensures { λ r. ⌜ r ≡ (isMarked (now (ws .entry)) i || (is 40 (labelAt (now (ws .entry)) i) && test)) ⌝ }
 {
     let k = inspect::kind_at(ws, i);
     match k {
         4 => takes_alias(ws, notes, i),
         26 => class_has_decorated(ws, notes, i),
-        29 => inspect::any_member_decorated(ws, notes, i + 1, inspect::children_at(ws, i)),
+        29 => any_marked(ws, notes, i + 1, inspect::children_at(ws, i)),
         30 => method_has_decorated(ws, notes, i),
         31 => inspect::payload_at(ws, i + 1) != 0,
         32 => inspect::payload_at(ws, i + 1) != 0,
@@ -112,6 +114,27 @@ fn method_has_decorated(ws: &[u32], notes: &[u32], i: usize) -> bool
     }
     let p = records::behind(ws, notes, i + 1, 2);
     inspect::any_decorated(ws, notes, p + 1, inspect::payload_at(ws, p) as usize)
+}
+
+// Is one of the k elements at `at` marked?
+fn any_marked(ws: &[u32], notes: &[u32], at: usize, k: usize) -> bool
+    requires { ⌜ Ends (now ws) (now notes) 0 × ElementMarks (now ws) (now notes) at k ⌝ }
+    ensures { λ r. ⌜ r ≡ anyRow isDecoratedMember (takeF k (recordsAt (now (ws .entry)) at)) ⌝ }
+{
+    let mut q = at;
+    let mut n = 0;
+    while n < k {
+        if ws.len() <= q {
+            return false;
+        }
+        let w = notes[q];
+        if w % 2 == 1 {
+            return true;
+        }
+        q = (w / 65536) as usize;
+        n += 1;
+    }
+    false
 }
 
 // Does the class of the statement at i take an alias?

@@ -1,5 +1,5 @@
 -- `class_has_decorated`: the class's own 28, or a constructor's parameters' in its body.
-use mathlib.Core.Path.{_≡_, ap, sym, _∙_}
+use mathlib.Core.Path.{ap, sym, _∙_}
 use native.Mathlib.Omega.{arith}
 use Rattle.records.specs.Place.{kidsAt}
 use Rattle.rewriting.specs.Parts.{constructorDecorated}

@@ -1,5 +1,5 @@
 -- `find_marks`: the invariant says that the entries of the places from i on are right.
-use Rattle.mark_table.specs.Marks.{Done, done-start, done-down, done-class, done-next, done-over, done-seven, done-planned}
+use Rattle.mark_table.specs.Marks.{Done, done-start, done-down, marks-class, done-next, done-over, done-seven, done-planned}
 use Rattle.records.specs.Place.{labelAt}
 use Rattle.records.specs.Label.{readAt}
 use borrow.Author.Needs.{needs}
@@ -58,7 +58,7 @@ any-test-requires c κs = done-down (c .before .before .before .before .loop .in
 any-refused-7-requires : tie.Need-any-refused-7-requires Inv-loop μ-loop
 any-refused-7-requires c κs =
     let d = done-down (c .before .before .before .before .before .before .loop .inv) (c .before .before .before .before .before .loop-test .taken) in
-    (omega (arith, c .before .before .before .before .before .before .loop .inv .low, c .before .before .before .before .before .loop-test .taken), c .before .before .before .before .before .before .loop .inv .ends, c .before .before .before .before .before .before .before .before .before .pre .1, done-class d, d .seven)
+    (omega (arith, c .before .before .before .before .before .before .loop .inv .low, c .before .before .before .before .before .loop-test .taken), c .before .before .before .before .before .before .loop .inv .ends, c .before .before .before .before .before .before .before .before .before .pre .1, marks-class _ _ _ (d .right), d .seven)
 
 mul-with-mark-2 : tie.Need-mul-with-mark-2 Inv-loop μ-loop
 mul-with-mark-2 c = search needs
@@ -67,7 +67,7 @@ slice-read-with-mark-2 : tie.Need-slice-read-with-mark-2 Inv-loop μ-loop
 slice-read-with-mark-2 c = omega (arith, c .before .before .before .before .before .before .before .before .loop .inv .ends .long, c .before .before .before .before .before .before .before .before .loop .inv .low, c .before .before .before .before .before .before .before .loop-test .taken)
 
 is-marked-requires : tie.Need-is-marked-requires Inv-loop μ-loop
-is-marked-requires c κs = (omega (arith, c .before .before .before .before .before .before .before .before .before .loop .inv .low, c .before .before .before .before .before .before .before .before .loop-test .taken), c .before .before .before .before .before .before .before .before .before .loop .inv .ends, c .before .before .before .before .before .before .before .before .before .before .before .before .pre .1, done-class (done-down (c .before .before .before .before .before .before .before .before .before .loop .inv) (c .before .before .before .before .before .before .before .before .loop-test .taken)))
+is-marked-requires c κs = (omega (arith, c .before .before .before .before .before .before .before .before .before .loop .inv .low, c .before .before .before .before .before .before .before .before .loop-test .taken), c .before .before .before .before .before .before .before .before .before .loop .inv .ends, c .before .before .before .before .before .before .before .before .before .before .before .before .pre .1, done-down (c .before .before .before .before .before .before .before .before .before .loop .inv) (c .before .before .before .before .before .before .before .before .loop-test .taken) .right)
 
 with-mark-requires-2 : tie.Need-with-mark-requires-2 Inv-loop μ-loop
 with-mark-requires-2 c κs = search needs

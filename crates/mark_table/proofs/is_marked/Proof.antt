@@ -1,12 +1,12 @@
 -- `is_marked`: by the kind.
-use Rattle.mark_table.specs.Marks.{marked-statement, marked-class, marked-body, marked-member, marked-other, marked-symbols}
+use Rattle.mark_table.specs.Marks.{ElementMarks, marks-class, marks-elements, marked-statement, marked-class, marked-body, marked-member, marked-other, marked-symbols}
 use Rattle.mark_table.specs.Places.{property-own, accessor-own}
 use Rattle.inspect.specs.Class.{member-other}
 use Rattle.records.specs.Place.{kidsAt}
 use native.Mathlib.Omega.{arith}
-use mathlib.Core.Path.{ap, sym, _∙_}
+use mathlib.Core.Path.{ap, sym, subst, _∙_}
 use mathlib.Core.Bool.{not}
-use Prim.Native.Nat.{ℕ}
+use Prim.Native.Nat.{ℕ, _+_}
 use lib.Dec.{eqb}
 use borrow.Author.Needs.{needs}
 use Rattle.mark_table.proofs.is_marked.Statement.{statement}
@@ -16,19 +16,19 @@ kind-at-requires : tie.Need-kind-at-requires
 kind-at-requires c κs = search needs
 
 takes-alias-requires : tie.Need-takes-alias-requires
-takes-alias-requires c κs = search needs
+takes-alias-requires c κs = (c .before .before .before .before .pre .0, c .before .before .before .before .pre .1, c .before .before .before .before .pre .2, marks-class (c .before .before .before .before .args .ws .now) (c .before .before .before .before .args .notes .now) (c .before .before .before .before .args .i + 1) (c .before .before .before .before .pre .3), sym (c .before .kind-at .ensures) ∙ c .match .keys1)
 
 class-has-decorated-requires : tie.Need-class-has-decorated-requires
 class-has-decorated-requires c κs = search needs
 
-add-any-member-decorated : tie.Need-add-any-member-decorated
-add-any-member-decorated c = search needs
+add-any-marked : tie.Need-add-any-marked
+add-any-marked c = search needs
 
 children-at-requires : tie.Need-children-at-requires
 children-at-requires c κs = search needs
 
-any-member-decorated-requires : tie.Need-any-member-decorated-requires
-any-member-decorated-requires c κs = search needs
+any-marked-requires : tie.Need-any-marked-requires
+any-marked-requires c κs = (c .before .before .before .before .before .pre .1, subst (ElementMarks (c .before .before .before .before .before .args .ws .now) (c .before .before .before .before .before .args .notes .now) (c .before .before .before .before .before .args .i + 1)) (sym (c .children-at .ensures .0)) (marks-elements (c .before .before .before .before .before .args .ws .now) (c .before .before .before .before .before .args .notes .now) (c .before .before .before .before .before .args .i) (c .before .before .before .before .before .pre .2) (c .before .before .before .before .before .pre .0) (sym (c .before .before .kind-at .ensures) ∙ c .before .match .keys3) (c .before .before .before .before .before .pre .3)))
 
 method-has-decorated-requires : tie.Need-method-has-decorated-requires
 method-has-decorated-requires c κs = search needs
@@ -59,7 +59,7 @@ returns-3 : tie.Need-returns-3
 unfolding kidsAt
 returns-3 c =
     let k = sym (c .before .before .before .kind-at .ensures) ∙ c .before .before .match .keys3 in
-    rw (c .before .children-at .ensures .0) at (c .any-member-decorated .ensures) ∙ sym (marked-other (c .before .before .before .before .before .before .args .ws .now) (c .before .before .before .before .before .before .args .i) (c .before .before .before .before .before .before .args .test) (λ e. omega (arith, k, e)) ∙ marked-body (c .before .before .before .before .before .before .args .ws .now) (c .before .before .before .before .before .before .args .i) k)
+    rw (c .before .children-at .ensures .0) at (c .any-marked .ensures) ∙ sym (marked-other (c .before .before .before .before .before .before .args .ws .now) (c .before .before .before .before .before .before .args .i) (c .before .before .before .before .before .before .args .test) (λ e. omega (arith, k, e)) ∙ marked-body (c .before .before .before .before .before .before .args .ws .now) (c .before .before .before .before .before .before .args .i) k)
 
 returns-4 : tie.Need-returns-4
 returns-4 c =
@@ -92,9 +92,9 @@ is-marked-spec =
     kind-at-requires
     takes-alias-requires
     class-has-decorated-requires
-    add-any-member-decorated
+    add-any-marked
     children-at-requires
-    any-member-decorated-requires
+    any-marked-requires
     method-has-decorated-requires
     add-payload-at
     payload-at-requires

@@ -1,5 +1,5 @@
 -- `method_has_decorated`: no constructor; the method's own 28, or its parameters'.
-use mathlib.Core.Path.{_≡_, ap, sym, _∙_}
+use mathlib.Core.Path.{ap, sym, _∙_}
 use Prim.Native.Nat.{_+_}
 use native.Mathlib.Omega.{arith}
 use Rattle.records.specs.Ends.{ends-at}
