@@ -83,7 +83,7 @@ fn class_total(ws: &[u32], notes: &[u32], at: usize, id: u32, s: u32) -> Total
     requires { ⌜ Behind (now ws) (now notes) at s × (labelAt (now ws) at .kind ≡ 4) ⌝ }
     ensures { λ r. ⌜ Totals (now (ws .entry)) (at + 1) 1 (record { live = true; id = id }) false r ⌝ }
 {
-    let b = inspect::body(ws, notes, at + 1);
+    let b = inspect::class_body(ws, notes, at + 1);
     if notes[b] % 2 == 0 {
         let w = notes[at + 1];
         return Total {

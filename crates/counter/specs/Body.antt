@@ -1,59 +1,33 @@
--- The body of the class of a statement: it is found, and its note says whether it has a decorated member. Assumes nothing.
-use mathlib.Core.Path.{_≡_, refl, ap, sym, _∙_}
-use mathlib.Core.Bool.{Bool, true, false, _||_}
+-- The body of a class, by its place: what `class_body` asks, and what the body's mark says. Assumes nothing.
+use mathlib.Core.Path.{_≡_, ap, subst, sym, _∙_}
 use mathlib.Core.List.{List, [], _∷_}
-use Prim.Native.Nat.{ℕ, _+_, _-_, _<_, _≤_}
-use native.Mathlib.Omega.{arith}
+use Prim.Native.Nat.{ℕ, _+_, _-_, _<_}
 use lib.ListN.{length, getD}
-use borrow.Author.Tests.{eq-eqb}
-use Rattle.records.specs.Forest.{end, node, takeF, appendF}
-use Rattle.records.specs.Label.{Label, Trees, is}
-use Rattle.records.specs.Place.{recordsAt, labelAt, arityAt, kidsAt, endOf, record-one}
+use Rattle.words.specs.Word.{bit0}
+use Rattle.records.specs.Ends.{Ends}
+use Rattle.records.specs.Place.{recordsAt, labelAt, arityAt, kidsAt, endOf}
 use Rattle.grammar.specs.Grammar.{module′}
 use Rattle.grammar.specs.WellFormed.{Fits}
 use Rattle.rewriting.specs.Parts.{isDecoratedMember, elementsOf}
-use Rattle.inspect.specs.Row.{anyRow, any-append, row-split, true-false, by-end}
-use Rattle.inspect.specs.Child.{ofKind, Found}
-use Rattle.walk_laws.specs.Slots.{standing-at}
-use Rattle.walk_laws.specs.Kinds.{class-inside, class-kind}
-use Rattle.walk_laws.specs.ClassPlan.{bodyAt}
-use Rattle.walk_laws.specs.ClassPlaces.{class-arity}
-use Rattle.walk_laws.specs.ClassFacts.{body-in, body-kind, body-behind}
+use Rattle.inspect.specs.Row.{anyRow}
+use Rattle.walk_laws.specs.ClassPlaces.{class-marked, class-heritage, class-body}
 use Rattle.counter.specs.Contract.{markIn, Planned}
 
-any-last : (f : Trees) (l : Label) (k : Trees) → is 29 l ≡ true → anyRow (ofKind 29) (appendF f (node l k end)) ≡ true
-any-last f l k e =
-    let last : anyRow (ofKind 29) (node l k end) ≡ true = unfold anyRow ofKind in rw e in
-    any-append (ofKind 29) f (node l k end) ∙ ap (anyRow (ofKind 29) f ||_) last ∙ or-true (anyRow (ofKind 29) f)
-  where
-    or-true : (b : Bool) → (b || true) ≡ true
-    or-true true = refl
-    or-true false = refl
+module _ (ws : List ℕ) (whole : Fits (module′ ∷ []) (recordsAt ws 0)) (at : ℕ) (h : at < length ws) (kind : labelAt ws at .kind ≡ 26) where
+  pub body-asks : {notes : List ℕ} → Ends ws notes 0 →
+      Ends ws notes 0 × (labelAt ws at .kind ≡ 26) × (at + 1 < length ws) × (endOf ws (at + 1) (1 + bit0 (labelAt ws at .payload)) ≡ endOf ws (at + 1) 1 + bit0 (labelAt ws at .payload)) ×
+      (endOf ws (at + 1) (1 + bit0 (labelAt ws at .payload)) < length ws)
+  body-asks e = (e, kind, class-marked ws whole at h kind .place, class-heritage ws whole at h kind .0, class-heritage ws whole at h kind .1)
 
-module _ (ws : List ℕ) (whole : Fits (module′ ∷ []) (recordsAt ws 0)) (at : ℕ) (h : at < length ws) (kind : labelAt ws at .kind ≡ 4) where
-  -- the body of a class is its last child
-  body-any : anyRow (ofKind 29) (takeF (arityAt ws (at + 1)) (recordsAt ws (at + 2))) ≡ true
-  body-any =
-      let k : ℕ = arityAt ws (at + 1) in
-      let b : ℕ = bodyAt ws at in
-      let some : 1 ≤ k = omega (arith, class-arity ws (at + 1) (at + 2) (omega arith) (standing-at ws (module′ ∷ []) whole (at + 1) (class-inside ws whole at h kind)) (class-kind ws whole at h kind)) in
-      let one : k - (k - 1) ≡ 1 = omega arith in
-      ap (anyRow (ofKind 29)) (
-      row-split ws (at + 2) (k - 1) k (omega arith)
-      ∙ ap (λ (n : ℕ). appendF (takeF (k - 1) (recordsAt ws (at + 2))) (takeF n (recordsAt ws (endOf ws (at + 2) (k - 1))))) one
-      ∙ ap (λ (q : ℕ). appendF (takeF (k - 1) (recordsAt ws (at + 2))) (takeF 1 (recordsAt ws q))) (body-behind ws whole at h kind)
-      ∙ ap (appendF (takeF (k - 1) (recordsAt ws (at + 2)))) (record-one ws b (body-in ws whole at h kind))
-      )
-      ∙ any-last _ (labelAt ws b) (kidsAt ws b) (unfold is in eq-eqb _ 29 (body-kind ws whole at h kind))
+  module _ {b : ℕ} (e : b ≡ endOf ws (at + 1) (arityAt ws at - 1)) where
+    pub body-inside : b < length ws
+    body-inside = subst (λ (q : ℕ). q < length ws) (sym e) (class-body ws whole at h kind .0)
 
-  pub body-found : {r : ℕ} → Found ws 29 (at + 1 + 1) (arityAt ws (at + 1)) r → r < length ws
-  body-found {r} f = by-end ws r (λ i. i) (λ i. absurd (true-false (sym body-any ∙ ap (λ (q : ℕ). anyRow (ofKind 29) (takeF (arityAt ws (at + 1)) (recordsAt ws q))) next ∙ f .missing i)))
-    where
-      next : at + 2 ≡ at + 1 + 1
-      next = omega arith
+    pub body-kind : labelAt ws b .kind ≡ 29
+    body-kind = ap (λ (q : ℕ). labelAt ws q .kind) e ∙ class-body ws whole at h kind .1
 
-  pub body-mark : {notes : List ℕ} {r : ℕ} → Planned ws notes → kidsAt ws r ≡ elementsOf (kidsAt ws (at + 1)) → Found ws 29 (at + 1 + 1) (arityAt ws (at + 1)) r →
-      markIn (getD notes r 0) ≡ anyRow isDecoratedMember (elementsOf (kidsAt ws (at + 1)))
-  body-mark {notes} {r} p e f =
-      let i : r < length ws = body-found f in
-      p .bodies r i (f .first i .kind-is) ∙ ap (anyRow isDecoratedMember) e
+    pub body-kids : kidsAt ws b ≡ elementsOf (kidsAt ws at)
+    body-kids = ap (kidsAt ws) e ∙ class-body ws whole at h kind .2
+
+    pub body-mark : {notes : List ℕ} → Planned ws notes → markIn (getD notes b 0) ≡ anyRow isDecoratedMember (elementsOf (kidsAt ws at))
+    body-mark p = p .bodies b body-inside body-kind ∙ ap (anyRow isDecoratedMember) body-kids

@@ -457,7 +457,7 @@ fn is_plain(ws: &[u32], notes: &[u32], at: usize) -> bool
     if notes[at + 1] % 2 == 1 {
         return false;
     }
-    let b = inspect::body(ws, notes, at + 1);
+    let b = inspect::class_body(ws, notes, at + 1);
     notes[b] % 2 != 1
 }
 
@@ -1101,13 +1101,13 @@ pub struct ClassPlan {
 
 // The class of the statement at `at`; s is the state behind the class's children.
 fn plan(ws: &[u32], notes: &[u32], at: usize, s: Count) -> ClassPlan
-    requires { ⌜ (length (now ws) ≤ 4096) × (at < length (now ws)) × Planned (now ws) (now notes) × (s .next + 1 < 67108864) × (s .default ≤ 67108864) × (at + 1 < length (now ws)) × (labelAt (now ws) (at + 1) .kind ≡ 26) ⌝ }
+    requires { ⌜ (length (now ws) ≤ 4096) × (at < length (now ws)) × Planned (now ws) (now notes) × (s .next + 1 < 67108864) × (s .default ≤ 67108864) × (at + 1 < length (now ws)) × (labelAt (now ws) (at + 1) .kind ≡ 26) × Fits (module′ ∷ []) (recordsAt (now ws) 0) ⌝ }
     ensures { λ r. ⌜ PlanFrom (now (ws .entry)) (now (notes .entry)) at s r ⌝ }
 {
     let id = inspect::class_id(ws, notes, at + 1);
     let decorated = notes[at + 1] % 2 == 1;
     let private = private_at(ws, notes, at + 1);
-    let b = inspect::body(ws, notes, at + 1);
+    let b = inspect::class_body(ws, notes, at + 1);
     let fixed = inspect::has_static(ws, notes, b + 1, inspect::children_at(ws, b));
     let calls = call_count_at(ws, notes, b, private);
     if decorated {

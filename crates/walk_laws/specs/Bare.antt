@@ -5,11 +5,12 @@ use mathlib.Core.List.{List, [], _∷_, _++_}
 use Prim.Native.Nat.{ℕ, zero, suc, _+_, _-_, _<_}
 use native.Mathlib.Omega.{arith}
 use lib.ListN.{length, replicate}
-use Rattle.words.specs.Word.{bit1, bit2, children}
-use Rattle.records.specs.Forest.{end, node, takeF, appendF, countF}
+use borrow.Author.Tests.{eqb-true}
+use Rattle.words.specs.Word.{children}
+use Rattle.records.specs.Forest.{end, node, appendF, countF}
 use Rattle.records.specs.Label.{Label, Trees, repay, is, _∶_}
-use Rattle.records.specs.Place.{recordsAt, labelAt, arityAt, kidsAt, endOf, records-first}
-use Rattle.grammar.specs.Grammar.{Slot, slot, Decorators, module′, code, expression, key, methodDecorators, methodParameters, parameterDecorators, parameterOf, slotsBelow}
+use Rattle.records.specs.Place.{recordsAt, labelAt, arityAt, kidsAt, endOf, end-add}
+use Rattle.grammar.specs.Grammar.{Slot, slot, Decorators, module′, expression, parameterDecorators, parameterOf, slotsBelow}
 use Rattle.grammar.specs.WellFormed.{Fits}
 use Rattle.rewriting.specs.Parts.{plain, method, field, tree, roleOf, isEmpty, decorators, undecorate, decoratorsOf, parametersOf, indexed, ofParameters, bareParameters, bareMethod, bareField, isMember, isDecoratedMember}
 use Rattle.rewriting.specs.Visit.{Around, State, Result, memberIf, member, since, join, _then_, visit, visitOne, visit-node}
@@ -17,7 +18,7 @@ use Rattle.walk_laws.specs.Rows.{visitAt, plain-one}
 use Rattle.walk_laws.specs.Slots.{Standing, standing-at, none-fits, fits-first, no-fits}
 use Rattle.walk_laws.specs.Roles.{Sort, isMethod, isProperty, isAccessor, member-sort, is-kind, is-other, plain-28, plain-37, bareBy, descriptorBy, member-one}
 use Rattle.walk_laws.specs.Still.{repaid, empty-end, empty-append, empty-indexed, member-role, kids-number, many-28}
-use Rattle.walk_laws.specs.Elements.{keyAt, parametersAt, atParameters, Called, decorators-kind, parameter-kind, decorators-first, undecorate-first, parameters-third, key-other, key-stays, called-here, called-bare, method-called, below-30, below-31, below-32, below-36, below-37}
+use Rattle.walk_laws.specs.Elements.{keyAt, parametersAt, atParameters, Marked, Called, decorators-kind, parameter-kind, decorators-first, undecorate-first, marked-read, marked-empty, called-read, key-stays, called-here, called-bare, method-called, below-31, below-32, below-36, below-37}
 
 -- ---- children that begin with a 28
 
@@ -107,46 +108,31 @@ module _ (ws : List ℕ) (whole : Fits (module′ ∷ []) (recordsAt ws 0)) (at 
   unfolding bareField
   field-same x rs f e = undecorate-same x rs (kidsAt ws at) f e around s
 
-  module _ (c : Called ws at) (x : ℕ) (rs : List Slot) (fits : Fits (slot Decorators x ∷ rs) (kidsAt ws at)) where
-    rest : Trees
-    rest = node (labelAt ws (keyAt ws at)) (kidsAt ws (keyAt ws at)) (node (labelAt ws (parametersAt ws at)) (kidsAt ws (parametersAt ws at)) (takeF (arityAt ws at - 3) (recordsAt ws (endOf ws (parametersAt ws at) 1))))
-
-    kids-read : kidsAt ws at ≡ node (labelAt ws (at + 1)) (kidsAt ws (at + 1)) rest
-    unfolding kidsAt keyAt parametersAt rest
-    kids-read =
-        let n : arityAt ws at ≡ suc (suc (suc (arityAt ws at - 3))) = omega (arith, c .count, c .keyed .count, c .keyed .marked .count) in
-        let p : ℕ = endOf ws (at + 1) 1 in
-        ap (λ (j : ℕ). takeF j (recordsAt ws (at + 1))) n
-        ∙ records-first ws (at + 1) (suc (suc (arityAt ws at - 3))) (c .keyed .marked .place)
-        ∙ ap (node (labelAt ws (at + 1)) (kidsAt ws (at + 1)))
-        (records-first ws p (suc (arityAt ws at - 3)) (c .keyed .place) ∙ ap (node (labelAt ws p) (kidsAt ws p)) (records-first ws (endOf ws p 1) (arityAt ws at - 3) (c .place)))
-
-    parameters-read : parametersOf (kidsAt ws at) ≡ kidsAt ws (parametersAt ws at)
-    unfolding labelAt rest
-    parameters-read = ap parametersOf kids-read ∙ parameters-third _ _ _ _ _ _ _ (c .keyed .marked .kind) (key-other (labelAt ws (keyAt ws at)) (c .keyed .slot)) (c .kind)
-
-    method-same : isEmpty (decoratorsOf method (kidsAt ws at)) ≡ true → bareMethod (visit around (kidsAt ws at) s .here) ≡ visit around (kidsAt ws at) s .here
-    unfolding decoratorsOf
-    method-same e =
-        let d : Label = labelAt ws (at + 1) in
-        let p = empty-append (decorators (kidsAt ws at)) (ofParameters 0 (parametersOf (kidsAt ws at))) e in
-        let first : Fits (slot Decorators x ∷ rs) (node d (kidsAt ws (at + 1)) rest) = subst (Fits (slot Decorators x ∷ rs)) kids-read fits in
-        let none : isEmpty (decorators (node d (kidsAt ws (at + 1)) rest)) ≡ true = ap (λ (f : Trees). isEmpty (decorators f)) (sym kids-read) ∙ p .0 in
-        let t : State = atParameters ws around at s in
-        let g : Trees = visit around (kidsAt ws (parametersAt ws at)) t .here in
-        let w : Trees = visitAt ws (endOf ws (parametersAt ws at) 1) (arityAt ws at - 3) around (visitAt ws (parametersAt ws at) 1 around t .after) .here in
-        let y : Trees = key-stays ws around at s (c .keyed) .below in
-        let place : parametersAt ws at < length ws = c .place in
-        let bare : bareParameters g ≡ g =
-        bare-same (stands ws whole (parametersAt ws at) place .slot .context) (labelAt ws (parametersAt ws at) .payload) (kidsAt ws (parametersAt ws at))
-        (kids-in ws whole (parametersAt ws at) place 36 _ (c .kind) (below-36 (stands ws whole (parametersAt ws at) place .slot) (labelAt ws (parametersAt ws at) .payload)))
-        0 (ap (λ (f : Trees). isEmpty (ofParameters 0 f)) (sym parameters-read) ∙ p .1) around t in
-        let empty : visit around (kidsAt ws (at + 1)) s .here ≡ end = ap (λ (f : Trees). visit around f s .here) (none-kids x rs d (kidsAt ws (at + 1)) rest first none) ∙ (unfold visit in refl) in
-        called-bare ws around at s c
-        ∙ ap (λ (l : Label). node l end (node (labelAt ws (keyAt ws at)) y (node (labelAt ws (parametersAt ws at)) (bareParameters g) w))) (none-payload x rs d (kidsAt ws (at + 1)) rest first none)
-        ∙ ap (λ (f : Trees). node d end (node (labelAt ws (keyAt ws at)) y (node (labelAt ws (parametersAt ws at)) f w))) bare
-        ∙ ap (λ (f : Trees). node d f (node (labelAt ws (keyAt ws at)) y (node (labelAt ws (parametersAt ws at)) g w))) (sym empty)
-        ∙ sym (called-here ws around at s c)
+  method-same : Called ws at → isEmpty (decoratorsOf method (kidsAt ws at)) ≡ true → bareMethod (visit around (kidsAt ws at) s .here) ≡ visit around (kidsAt ws at) s .here
+  unfolding decoratorsOf parametersAt keyAt
+  method-same c e =
+      let m : Marked ws at = c .keyed .marked in
+      let d : Label = labelAt ws (at + 1) in
+      let q : ℕ = parametersAt ws at in
+      let t : State = atParameters ws around at s in
+      let p = empty-append (decorators (kidsAt ws at)) (ofParameters 0 (parametersOf (kidsAt ws at))) e in
+      let read : parametersOf (kidsAt ws at) ≡ kidsAt ws q = called-read ws at c ∙ ap (kidsAt ws) (end-add ws (at + 1) 1 1) in
+      let none : kidsAt ws (at + 1) ≡ end = empty-end (kidsAt ws (at + 1)) (ap isEmpty (sym (marked-read ws at m)) ∙ p .0) in
+      let zero : repay d 0 ≡ d = repaid d 0 (eqb-true (d .payload) 0 (sym (marked-empty ws at whole m) ∙ p .0)) in
+      let g : Trees = visit around (kidsAt ws q) t .here in
+      let w : Trees = visitAt ws (endOf ws q 1) (arityAt ws at - 3) around (visitAt ws q 1 around t .after) .here in
+      let y : Trees = key-stays ws around at s (c .keyed) .below in
+      let k : Label = labelAt ws (keyAt ws at) in
+      let bare : bareParameters g ≡ g =
+      bare-same (stands ws whole q (c .place) .slot .context) (labelAt ws q .payload) (kidsAt ws q)
+      (kids-in ws whole q (c .place) 36 _ (c .kind) (below-36 (stands ws whole q (c .place) .slot) (labelAt ws q .payload)))
+      0 (ap (λ (f : Trees). isEmpty (ofParameters 0 f)) (sym read) ∙ p .1) around t in
+      let empty : visit around (kidsAt ws (at + 1)) s .here ≡ end = ap (λ (f : Trees). visit around f s .here) none ∙ (unfold visit in refl) in
+      called-bare ws around at s c
+      ∙ ap (λ (l : Label). node l end (node k y (node (labelAt ws q) (bareParameters g) w))) zero
+      ∙ ap (λ (f : Trees). node d end (node k y (node (labelAt ws q) f w))) bare
+      ∙ ap (λ (f : Trees). node d f (node k y (node (labelAt ws q) g w))) (sym empty)
+      ∙ sym (called-here ws around at s c)
 
   module _ (m : isMember (labelAt ws at) ≡ true) (bare : isDecoratedMember (labelAt ws at) (kidsAt ws at) ≡ false) where
     bare-is : bareBy (labelAt ws at) (visit around (kidsAt ws at) s .here) ≡ visit around (kidsAt ws at) s .here
@@ -162,8 +148,7 @@ module _ (ws : List ℕ) (whole : Fits (module′ ∷ []) (recordsAt ws 0)) (at 
         go : Sort (labelAt ws at) → cond (is 30 (labelAt ws at)) (bareMethod (visit around (kidsAt ws at) s .here)) (bareField (visit around (kidsAt ws at) s .here)) ≡ visit around (kidsAt ws at) s .here
         go (isMethod e r) =
             rw (is-kind (labelAt ws at) 30 e)
-            (method-same (method-called ws at whole h e) (bit1 (labelAt ws at .payload)) _ (kids-in ws whole at h 30 _ e (below-30 q (labelAt ws at .payload)))
-            (member-role (labelAt ws at) (kidsAt ws at) method r m bare))
+            (method-same (method-called ws at whole h e) (member-role (labelAt ws at) (kidsAt ws at) method r m bare))
         go (isProperty e r) =
             rw (is-other (labelAt ws at) 31 30 e refl)
             (field-same 0 _ (kids-in ws whole at h 31 _ e (below-31 q (labelAt ws at .payload))) (none _ r))

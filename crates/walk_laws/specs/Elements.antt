@@ -38,7 +38,7 @@ pub below-36 : (q : Slot) (p : ℕ) → slotsBelow q 36 p ≡ replicate p (param
 unfolding slotsBelow rowOf lookup table row slots
 below-36 q p = append-nil (replicate p (parameterOf (q .context)))
 
-pub below-30 : (q : Slot) (p : ℕ) → slotsBelow q 30 p ≡ methodDecorators (bit1 p) ∷ key ∷ methodParameters ∷ (replicate (bit2 p) code ++ [])
+below-30 : (q : Slot) (p : ℕ) → slotsBelow q 30 p ≡ methodDecorators (bit1 p) ∷ key ∷ methodParameters ∷ (replicate (bit2 p) code ++ [])
 unfolding slotsBelow rowOf lookup table row slots
 below-30 q p = refl
 
@@ -72,7 +72,7 @@ unfolding is
 other-kind q l k a n = ne-eqb (l .kind) k λ e. n (ap (λ (m : ℕ). rowOf m .category) (sym e) ∙ allowed-row q (l .kind) (l .payload) (a .grammar) .0)
 
 -- a key is no 36
-pub key-other : (l : Label) → Allowed key l → is 36 l ≡ false
+key-other : (l : Label) → Allowed key l → is 36 l ≡ false
 unfolding rowOf lookup table row
 key-other l a = other-kind key l 36 a λ e. omega arith
 
@@ -210,7 +210,7 @@ module _ (l : Label) (k r : Trees) (e : l .kind ≡ 28) where
 
 -- a key stands between the 28 and the 36
 module _ (d c p : Label) (x y z w : Trees) (e : d .kind ≡ 28) (n : is 36 c ≡ false) (h : p .kind ≡ 36) where
-  pub parameters-third : parametersOf (node d x (node c y (node p z w))) ≡ z
+  parameters-third : parametersOf (node d x (node c y (node p z w))) ≡ z
   unfolding parametersOf kidsOf
   parameters-third = rw (is-other d 28 36 e refl, n, is-kind p 36 h)
 

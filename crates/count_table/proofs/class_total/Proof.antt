@@ -7,26 +7,35 @@ use lib.ListN.{getD}
 use borrow.Author.Needs.{needs}
 use borrow.Author.Tests.{ne-eqb}
 use Rattle.walk_laws.specs.Kinds.{class-inside, class-kind}
-use Rattle.counter.specs.Body.{body-found, body-mark}
+use Rattle.counter.specs.Body.{body-asks, body-inside, body-mark}
 use Rattle.counter.specs.Totals.{total-undecorated, note-at}
 use Rattle.count_table.specs.Note.{behind-walks}
 use Rattle.count_table.proofs.class_total.Statement.{statement}
 use Rattle.count_table.proofs.class_total.Tie as tie
 
-add-body : tie.Need-add-body
-add-body c = search needs
+add-class-body : tie.Need-add-class-body
+add-class-body c = search needs
 
-body-requires : tie.Need-body-requires
-body-requires c κs = c .before .before .pre .0 .ready .planned .ends
+class-body-requires : tie.Need-class-body-requires
+class-body-requires c κs =
+    let g = c .before .before .args in
+    let p = c .before .before .pre in
+    let whole = p .0 .ready .whole in
+    body-asks (g .ws .now) whole (g .at + 1) (class-inside (g .ws .now) whole (g .at) (p .0 .inside) (p .1)) (class-kind (g .ws .now) whole (g .at) (p .0 .inside) (p .1)) (p .0 .ready .planned .ends)
 
 mul-if1 : tie.Need-mul-if1
-mul-if1 c = search needs
+mul-if1 c =
+    let g = c .before .before .before .args in
+    let p = c .before .before .before .pre in
+    let whole = p .0 .ready .whole in
+    omega (arith, p .0 .ready .few, body-inside (g .ws .now) whole (g .at + 1) (class-inside (g .ws .now) whole (g .at) (p .0 .inside) (p .1)) (class-kind (g .ws .now) whole (g .at) (p .0 .inside) (p .1)) (c .class-body .ensures))
 
 shared-slice-read-if1 : tie.Need-shared-slice-read-if1
 shared-slice-read-if1 c =
     let g = c .before .before .before .before .args in
     let p = c .before .before .before .before .pre in
-    omega (arith, p .0 .ready .planned .ends .long, body-found (g .ws .now) (p .0 .ready .whole) (g .at) (p .0 .inside) (p .1) (c .before .body .ensures .1))
+    let whole = p .0 .ready .whole in
+    omega (arith, p .0 .ready .planned .ends .long, body-inside (g .ws .now) whole (g .at + 1) (class-inside (g .ws .now) whole (g .at) (p .0 .inside) (p .1)) (class-kind (g .ws .now) whole (g .at) (p .0 .inside) (p .1)) (c .before .class-body .ensures))
 
 add-w : tie.Need-add-w
 add-w c = search needs
@@ -47,12 +56,12 @@ returns : tie.Need-returns
 returns c =
     let g = c .before .before .before .before .before .before .args in
     let p = c .before .before .before .before .before .before .pre in
-    let b = c .before .before .before .body in
+    let b = c .before .before .before .class-body in
     let whole = p .0 .ready .whole in
     let inside = class-inside (g .ws .now) whole (g .at) (p .0 .inside) (p .1) in
     let plain = ne-eqb (getD (g .notes .now) (b .result) 0 % 2) 1 (λ z. omega (arith, z, c .before .if1 .taken)) in
     total-undecorated (behind-walks (p .0)) inside (record { live = true; id = g .id }) false (getD (g .notes .now) (g .at + 1) 0) (note-at _ _ _ (p .0 .noted) inside) (class-kind (g .ws .now) whole (g .at) (p .0 .inside) (p .1))
-    (sym (body-mark (g .ws .now) whole (g .at) (p .0 .inside) (p .1) (p .0 .ready .planned) (b .ensures .0) (b .ensures .1)) ∙ plain)
+    (sym (body-mark (g .ws .now) whole (g .at + 1) inside (class-kind (g .ws .now) whole (g .at) (p .0 .inside) (p .1)) (b .ensures) (p .0 .ready .planned)) ∙ plain)
 
 add-total-records : tie.Need-add-total-records
 add-total-records c = search needs
@@ -67,8 +76,8 @@ pub class-total-spec : {M : Type 1} → statement M
 class-total-spec =
     tie.close
     (tie.spec
-    add-body
-    body-requires
+    add-class-body
+    class-body-requires
     mul-if1
     shared-slice-read-if1
     add-w

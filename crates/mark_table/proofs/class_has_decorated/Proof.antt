@@ -4,7 +4,7 @@ use native.Mathlib.Omega.{arith}
 use Rattle.records.specs.Place.{kidsAt}
 use Rattle.rewriting.specs.Parts.{constructorDecorated}
 use Rattle.inspect.specs.Child.{kids-row}
-use Rattle.walk_laws.specs.ClassPlaces.{class-marked, class-heritage, class-body}
+use Rattle.counter.specs.Body.{body-asks, body-inside}
 use Rattle.mark_table.specs.Places.{class-own, class-constructor}
 use borrow.Author.Needs.{needs}
 use Rattle.mark_table.proofs.class_has_decorated.Statement.{statement}
@@ -21,11 +21,15 @@ returns c = sym (class-own (c .before .before .before .before .args .ws .now) (c
 
 class-body-requires : tie.Need-class-body-requires
 class-body-requires c κs =
-    let g = class-heritage (c .before .before .before .before .args .ws .now) (c .before .before .before .before .pre .2) (c .before .before .before .before .args .i) (c .before .before .before .before .pre .0) (c .before .before .before .before .pre .3) in
-    (c .before .before .before .before .pre .1, c .before .before .before .before .pre .3, class-marked (c .before .before .before .before .args .ws .now) (c .before .before .before .before .pre .2) (c .before .before .before .before .args .i) (c .before .before .before .before .pre .0) (c .before .before .before .before .pre .3) .place, g .0, g .1)
+    let g = c .before .before .before .before .args in
+    let p = c .before .before .before .before .pre in
+    body-asks (g .ws .now) (p .2) (g .i) (p .0) (p .3) (p .1)
 
 add-constructor-decorated : tie.Need-add-constructor-decorated
-add-constructor-decorated c = omega (arith, c .class-body .ensures, class-body (c .before .before .before .before .before .args .ws .now) (c .before .before .before .before .before .pre .2) (c .before .before .before .before .before .args .i) (c .before .before .before .before .before .pre .0) (c .before .before .before .before .before .pre .3) .0)
+add-constructor-decorated c =
+    let g = c .before .before .before .before .before .args in
+    let p = c .before .before .before .before .before .pre in
+    omega (arith, body-inside (g .ws .now) (p .2) (g .i) (p .0) (p .3) (c .class-body .ensures))
 
 children-at-requires : tie.Need-children-at-requires
 children-at-requires c κs = search needs

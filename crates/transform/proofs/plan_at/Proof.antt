@@ -24,7 +24,7 @@ plan-requires : tie.Need-plan-requires
 plan-requires c κs =
     let p = c .before .before .before .before .before .pre in
     let a = c .before .before .before .before .before .args in
-    (p .0 .few, p .1, p .0 .planned, omega (arith, c .next-behind .ensures, named-room (p .0) (p .1) (p .2) (p .3) _ (c .before .before .class-id .ensures .0) (c .before .if1 .taken)), omega arith, class-inside (a .ws .now) (p .0 .whole) (a .at) (p .1) (p .2), class-kind (a .ws .now) (p .0 .whole) (a .at) (p .1) (p .2))
+    (p .0 .few, p .1, p .0 .planned, omega (arith, c .next-behind .ensures, named-room (p .0) (p .1) (p .2) (p .3) _ (c .before .before .class-id .ensures .0) (c .before .if1 .taken)), omega arith, class-inside (a .ws .now) (p .0 .whole) (a .at) (p .1) (p .2), class-kind (a .ws .now) (p .0 .whole) (a .at) (p .1) (p .2), p .0 .whole)
 
 returns : tie.Need-returns
 returns c =
@@ -43,7 +43,7 @@ plan-requires-2 : tie.Need-plan-requires-2
 plan-requires-2 c κs =
     let p = c .before .before .before .before .before .pre in
     let a = c .before .before .before .before .before .args in
-    (p .0 .few, p .1, p .0 .planned, plan-next (p .0) (p .1) (p .2) (p .3) _ (c .before .before .class-id .ensures .0) (c .count-records .ensures), plan-default (p .0) (p .1) (p .2) (p .3) _ (c .before .before .class-id .ensures .0) (c .count-records .ensures), class-inside (a .ws .now) (p .0 .whole) (a .at) (p .1) (p .2), class-kind (a .ws .now) (p .0 .whole) (a .at) (p .1) (p .2))
+    (p .0 .few, p .1, p .0 .planned, plan-next (p .0) (p .1) (p .2) (p .3) _ (c .before .before .class-id .ensures .0) (c .count-records .ensures), plan-default (p .0) (p .1) (p .2) (p .3) _ (c .before .before .class-id .ensures .0) (c .count-records .ensures), class-inside (a .ws .now) (p .0 .whole) (a .at) (p .1) (p .2), class-kind (a .ws .now) (p .0 .whole) (a .at) (p .1) (p .2), p .0 .whole)
 
 returns-2 : tie.Need-returns-2
 returns-2 c =
