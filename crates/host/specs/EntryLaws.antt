@@ -24,7 +24,7 @@ use Rattle.rewriting.specs.DemandWords.{DemandWords}
 use Rattle.rewriter.specs.Result.{take-written}
 use Rattle.host.specs.Bytes.{wordsOfBytes, bytesOfWords, Small}
 use Rattle.host.specs.BytesLaws.{length-words, length-bytes, words-bytes}
-use Rattle.host.specs.Entry.{numberOf, InFields, answerIn, answerBytes, isBadLength, rewriteBytes, reportBytes}
+use Rattle.host.specs.Entry.{numberOf, InFields, answerIn, answerBytes, isBadLength, rewriteBytes, rewriteBytesLent, reportBytes, ReportBytesLent}
 
 -- the number loses nothing
 pub number-apart : (a : Answer) → InFields a → answerIn (numberOf a) ≡ a
@@ -87,12 +87,17 @@ module _ (bs xs o : List ℕ) where
   unfolding answerBytes
   answer-even e = rw (eq-eqb (length bs % 4) 0 e)
 
+  -- what validation refuses
+  pub answer-refused : length bs % 4 ≡ 0 → (refusal (wordsOfBytes bs) ≡ 0 → ⊥) → answerBytes bs xs o ≡ refused (refusal (wordsOfBytes bs))
+  answer-refused e n =
+      let ws : List ℕ = wordsOfBytes bs in
+      let first : turnedBack ws ≡ refusal ws = faults-first ws n in
+      answer-even e ∙ seven-before-eight ws xs (length o / 4) (λ z. n (sym first ∙ z)) ∙ ap refused first
+
   answer-many : length bs % 4 ≡ 0 → 16384 < length bs → answerBytes bs xs o ≡ refused 1
   answer-many e h =
-      let ws : List ℕ = wordsOfBytes bs in
-      let one : refusal ws ≡ 1 = refused-1 ws .1 (λ z. omega (arith, z .few, length-words bs)) in
-      let first : turnedBack ws ≡ 1 = faults-first ws (λ z. omega (arith, one)) ∙ one in
-      answer-even e ∙ seven-before-eight ws xs (length o / 4) (λ z. omega (arith, first)) ∙ ap refused first
+      let one : refusal (wordsOfBytes bs) ≡ 1 = refused-1 (wordsOfBytes bs) .1 (λ z. omega (arith, z .few, length-words bs)) in
+      answer-refused e (λ z. omega (arith, one, z)) ∙ ap refused one
 
   pub answer-bad : isBadLength (length bs) ≡ true → answerBytes bs xs o ≡ refused 1
   unfolding isBadLength
@@ -128,6 +133,23 @@ refused-number c a e = rw e (omega arith)
 pub refused-lent : (c : ℕ) (a : Answer) (ys o : List ℕ) → (c ≡ 0 → ⊥) → a ≡ refused c → o ≡ lentAfter a ys o
 unfolding refused
 refused-lent c a ys o n e = sym (untouched a ys o (λ z. n (sym (ap (λ (r : Answer). r .code) e) ∙ z)))
+
+-- of what validation refuses
+module _ (bs o : List ℕ) (v : ℕ) (even : length bs % 4 ≡ 0) (e : v ≡ refusal (wordsOfBytes bs)) (n : v ≡ 0 → ⊥) where
+  refused-is : (xs : List ℕ) → answerBytes bs xs o ≡ refused v
+  refused-is xs = answer-refused bs xs o even (λ z. n (e ∙ z)) ∙ ap refused (sym e)
+
+  pub rewriting-refused : (v ≡ numberOf (rewriteBytes bs o)) × ((o ≡ rewriteBytesLent bs o) × (answerIn v .code ≡ 0 → DemandWords (wordsOfBytes bs) (take (answerIn v .written) (wordsOfBytes o))))
+  unfolding rewriteBytes rewriteBytesLent answerIn
+  rewriting-refused =
+      let a = refused-is (moduleWords (wordsOfBytes bs)) in
+      (refused-number v _ a, (refused-lent v _ (bytesOfWords (moduleWords (wordsOfBytes bs))) o n a, λ z. absurd (n (omega (arith, z, e, refusal-le (wordsOfBytes bs))))))
+
+  pub report-refused : (v ≡ numberOf (reportBytes bs o)) × ReportBytesLent bs o o
+  unfolding reportBytes Reordered
+  report-refused =
+      let a = refused-is (reportWords (wordsOfBytes bs)) in
+      (refused-number v _ a, record { order = reportWords (wordsOfBytes bs); same = λ p. refl; lent = refused-lent v _ (bytesOfWords (reportWords (wordsOfBytes bs))) o n a })
 
 -- ---- the bytes stored. O are the words lent for the answer, ys those written over them
 

@@ -6,6 +6,7 @@ ghost use Prim.Native.Nat.{_+_, _*_, _/_, _%_, _≤_};
 ghost use lib.Dec.{ltb};
 ghost use lib.ListN.{length, take};
 ghost use Rattle.output.specs.Overlay.{overlay};
+ghost use Rattle.grammar.specs.Scan.{refusal};
 ghost use Rattle.rewriting.specs.DemandWords.{DemandWords};
 ghost use Rattle.rewriter.specs.Numbers.{numbersOf};
 ghost use Rattle.host.specs.Bytes.{wordFrom, wordsOfBytes, bytesFrom, bytesOfWords, Small};
@@ -24,29 +25,32 @@ pub extern "C" fn gingerpost_rewrite(bytes: &[u8], out: &mut [u8]) -> u64
     }
     if bytes.len() <= 256 {
         let mut ws = [0u32; 64];
+        let v = read(bytes, &mut ws);
+        if v != 0 {
+            return v as u64;
+        }
         let mut notes = [0u32; 64];
         let mut written = [0u32; 192];
-        return rewrite_by(bytes, &mut ws, &mut notes, &mut written, out);
+        return rewrite_by(bytes, &ws, &mut notes, &mut written, out);
     }
     long_call(bytes, out, false)
 }
 
-// `gingerpost_rewrite` with the words lent: `ws` for those read, `notes` for as many notes, `written` for the answer's, at most three times as many
-// (`module-length`).
+// `gingerpost_rewrite` of a module that validation accepts: `ws` has its words. `notes` is lent for as many notes, `written` for the answer's words, at
+// most three times as many (`module-length`).
 fn rewrite_by(
     bytes: &[u8],
-    ws: &mut [u32],
+    ws: &[u32],
     notes: &mut [u32],
     written: &mut [u32],
     out: &mut [u8],
 ) -> u64
-    requires { ⌜ (length (now bytes) % 4 ≡ 0) × (length (now bytes) ≤ 4 * length (now ws)) × (length (now ws) ≤ length (now notes)) × (3 * length (now ws) ≤ length (now written)) × (length (now written) ≤ 12288) ⌝ }
+    requires { ⌜ (length (now bytes) % 4 ≡ 0) × (length (now bytes) ≤ 4 * length (now ws)) × (length (now ws) ≤ length (now notes)) × (3 * length (now ws) ≤ length (now written)) × (length (now written) ≤ 12288) × (take (length (now bytes) / 4) (now ws) ≡ wordsOfBytes (now bytes)) × (refusal (wordsOfBytes (now bytes)) ≡ 0) ⌝ }
     ensures number { λ r. ⌜ r ≡ numberOf (rewriteBytes (now (bytes .entry)) (now (out .entry))) ⌝ }
     ensures lent { λ r. ⌜ now (out .exit) ≡ rewriteBytesLent (now (bytes .entry)) (now (out .entry)) ⌝ }
     ensures demand { λ r. ⌜ (answerIn r .code ≡ 0 → DemandWords (wordsOfBytes (now (bytes .entry))) (take (answerIn r .written) (wordsOfBytes (now (out .exit))))) ⌝ }
 {
     let n = bytes.len() >> 2;
-    pack(bytes, ws);
     let r = rewriter::rewrite_by(&ws[..n], notes, written);
     let m = r.written;
     if is_short(out.len(), m) {
@@ -67,28 +71,31 @@ pub extern "C" fn gingerpost_report(bytes: &[u8], out: &mut [u8]) -> u64
     }
     if bytes.len() <= 256 {
         let mut ws = [0u32; 64];
+        let v = read(bytes, &mut ws);
+        if v != 0 {
+            return v as u64;
+        }
         let mut notes = [0u32; 64];
         let mut written = [0u32; 21];
-        return report_by(bytes, &mut ws, &mut notes, &mut written, out);
+        return report_by(bytes, &ws, &mut notes, &mut written, out);
     }
     long_call(bytes, out, true)
 }
 
-// `gingerpost_report` with the words lent: `ws` for those read, `notes` for as many notes, `written` for the report's, at most a third of them
-// (`report-length`).
+// `gingerpost_report` of a module that validation accepts: `ws` has its words. `notes` is lent for as many notes, `written` for the report's words, at
+// most a third of them (`report-length`).
 fn report_by(
     bytes: &[u8],
-    ws: &mut [u32],
+    ws: &[u32],
     notes: &mut [u32],
     written: &mut [u32],
     out: &mut [u8],
 ) -> u64
-    requires { ⌜ (length (now bytes) % 4 ≡ 0) × (length (now bytes) ≤ 4 * length (now ws)) × (length (now ws) ≤ length (now notes)) × (length (now ws) / 3 ≤ length (now written)) × (length (now written) ≤ 12288) ⌝ }
+    requires { ⌜ (length (now bytes) % 4 ≡ 0) × (length (now bytes) ≤ 4 * length (now ws)) × (length (now ws) ≤ length (now notes)) × (length (now ws) / 3 ≤ length (now written)) × (length (now written) ≤ 12288) × (take (length (now bytes) / 4) (now ws) ≡ wordsOfBytes (now bytes)) × (refusal (wordsOfBytes (now bytes)) ≡ 0) ⌝ }
     ensures number { λ r. ⌜ r ≡ numberOf (reportBytes (now (bytes .entry)) (now (out .entry))) ⌝ }
     ensures lent { λ r. ⌜ ReportBytesLent (now (bytes .entry)) (now (out .entry)) (now (out .exit)) ⌝ }
 {
     let n = bytes.len() >> 2;
-    pack(bytes, ws);
     let r = symbol_report::report_by(&ws[..n], notes, written);
     let m = r.written;
     if is_short(out.len(), m) {
@@ -107,29 +114,41 @@ fn long_call(bytes: &[u8], out: &mut [u8], report: bool) -> u64
 {
     if bytes.len() <= 512 {
         let mut ws = [0u32; 128];
+        let v = read(bytes, &mut ws);
+        if v != 0 {
+            return v as u64;
+        }
         let mut notes = [0u32; 128];
         let mut written = [0u32; 384];
         if report {
-            return report_by(bytes, &mut ws, &mut notes, &mut written, out);
+            return report_by(bytes, &ws, &mut notes, &mut written, out);
         }
-        return rewrite_by(bytes, &mut ws, &mut notes, &mut written, out);
+        return rewrite_by(bytes, &ws, &mut notes, &mut written, out);
     }
     if bytes.len() <= 2048 {
         let mut ws = [0u32; 512];
+        let v = read(bytes, &mut ws);
+        if v != 0 {
+            return v as u64;
+        }
         let mut notes = [0u32; 512];
         let mut written = [0u32; 1536];
         if report {
-            return report_by(bytes, &mut ws, &mut notes, &mut written, out);
+            return report_by(bytes, &ws, &mut notes, &mut written, out);
         }
-        return rewrite_by(bytes, &mut ws, &mut notes, &mut written, out);
+        return rewrite_by(bytes, &ws, &mut notes, &mut written, out);
     }
     let mut ws = [0u32; 4096];
+    let v = read(bytes, &mut ws);
+    if v != 0 {
+        return v as u64;
+    }
     let mut notes = [0u32; 4096];
     let mut written = [0u32; 12288];
     if report {
-        return report_by(bytes, &mut ws, &mut notes, &mut written, out);
+        return report_by(bytes, &ws, &mut notes, &mut written, out);
     }
-    rewrite_by(bytes, &mut ws, &mut notes, &mut written, out)
+    rewrite_by(bytes, &ws, &mut notes, &mut written, out)
 }
 
 // Whether so many bytes are refused at once: no multiple of 4, or over 4,096 words.
@@ -140,6 +159,16 @@ fn is_bad_length(n: usize) -> bool
         return true;
     }
     16384 < n
+}
+
+// The words of the bytes, at the start of `ws`; answers the refusal that validation has for them, or 0. What is refused by then takes no other array.
+fn read(bytes: &[u8], ws: &mut [u32]) -> u32
+    requires { ⌜ (length (now bytes) % 4 ≡ 0) × (length (now bytes) ≤ 4 * length (now ws)) ⌝ }
+    ensures { λ r. ⌜ (take (length (now (bytes .entry)) / 4) (now (ws .exit)) ≡ wordsOfBytes (now (bytes .entry))) × (r ≡ refusal (wordsOfBytes (now (bytes .entry)))) ⌝ }
+{
+    let n = bytes.len() >> 2;
+    pack(bytes, ws);
+    validation::number(validation::validate(&ws[..n]))
 }
 
 // The words of the bytes, at the start of `ws`.

@@ -20,13 +20,21 @@ pub struct Answer {
     pub fresh: u32,
 }
 
-// Rewrites the module in `ws`; the answer's words go to the start of `out`. A module takes notes of one of three sizes: short ones are cleared
-// sooner.
+// Rewrites the module in `ws`; the answer's words go to the start of `out`. One that validation refuses takes no notes, any other takes notes of one of
+// three sizes: short ones are cleared sooner.
 pub fn rewrite(ws: &[u32], out: &mut [u32]) -> Answer
     ensures numbers { λ r. ⌜ numbersOf r ≡ rewriteAnswer (now (ws .entry)) (now (out .entry)) ⌝ }
     ensures lent { λ r. ⌜ now (out .exit) ≡ rewriteLent (now (ws .entry)) (now (out .entry)) ⌝ }
     ensures demand { λ r. ⌜ (r .code ≡ 0 → DemandWords (now (ws .entry)) (take (r .written) (now (out .exit)))) ⌝ }
 {
+    let v = validation::number(validation::validate(ws));
+    if v != 0 {
+        return Answer {
+            code: v,
+            written: 0,
+            fresh: 0,
+        };
+    }
     if ws.len() <= 64 {
         let mut notes = [0u32; 64];
         return rewrite_by(ws, &mut notes, out);
@@ -39,9 +47,9 @@ pub fn rewrite(ws: &[u32], out: &mut [u32]) -> Answer
     rewrite_by(ws, &mut notes, out)
 }
 
-// `rewrite` with the notes lent, also for the C entry: as many as the words of a module that is accepted.
+// `rewrite` of a module that validation accepts, also for the C entry; notes for all of its words are lent.
 pub fn rewrite_by(ws: &[u32], notes: &mut [u32], out: &mut [u32]) -> Answer
-    requires { ⌜ (refusal (now ws) ≡ 0 → length (now ws) ≤ length (now notes)) ⌝ }
+    requires { ⌜ (refusal (now ws) ≡ 0) × (length (now ws) ≤ length (now notes)) ⌝ }
     ensures numbers { λ r. ⌜ numbersOf r ≡ rewriteAnswer (now (ws .entry)) (now (out .entry)) ⌝ }
     ensures lent { λ r. ⌜ now (out .exit) ≡ rewriteLent (now (ws .entry)) (now (out .entry)) ⌝ }
     ensures demand { λ r. ⌜ (r .code ≡ 0 → DemandWords (now (ws .entry)) (take (r .written) (now (out .exit)))) ⌝ }
@@ -74,19 +82,20 @@ pub fn rewrite_by(ws: &[u32], notes: &mut [u32], out: &mut [u32]) -> Answer
 pub fn turned_back(ws: &[u32]) -> u32
     ensures { λ r. ⌜ r ≡ turnedBack (now (ws .entry)) ⌝ }
 {
-    let mut notes = [0u32; 4096];
-    turned_back_by(ws, &mut notes)
-}
-
-// `turned_back` with the notes lent, for `rewrite_by` and for `symbol_report`; with 0 they have the ends and the marks.
-pub fn turned_back_by(ws: &[u32], notes: &mut [u32]) -> u32
-    requires { ⌜ (refusal (now ws) ≡ 0 → length (now ws) ≤ length (now notes)) ⌝ }
-    ensures { λ r. ⌜ (r ≡ turnedBack (now (ws .entry))) × (r ≡ 0 → Planned (now (ws .entry)) (now (notes .exit))) × (length (now (notes .exit)) ≡ length (now (notes .entry))) ⌝ }
-{
     let v = validation::number(validation::validate(ws));
     if v != 0 {
         return v;
     }
+    let mut notes = [0u32; 4096];
+    turned_back_by(ws, &mut notes)
+}
+
+// `turned_back` of a module that validation accepts, for `rewrite_by` and for `symbol_report`; notes for all of its words are lent, and with 0 they have
+// the ends and the marks.
+pub fn turned_back_by(ws: &[u32], notes: &mut [u32]) -> u32
+    requires { ⌜ (refusal (now ws) ≡ 0) × (length (now ws) ≤ length (now notes)) ⌝ }
+    ensures { λ r. ⌜ (r ≡ turnedBack (now (ws .entry))) × (r ≡ 0 → Planned (now (ws .entry)) (now (notes .exit))) × (length (now (notes .exit)) ≡ length (now (notes .entry))) ⌝ }
+{
     records::find_ends(ws, notes);
     if mark_table::find_marks(ws, notes) {
         return 7;

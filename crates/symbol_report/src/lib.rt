@@ -14,12 +14,20 @@ ghost use Rattle.counter.specs.Contract.{Planned};
 ghost use Rattle.rewriter.specs.Numbers.{numbersOf};
 ghost use Rattle.symbol_report.specs.Result.{WritesReport};
 
-// Writes the report of the module in `ws` to the start of `out`. The order of its words is free. A module takes notes of one of three sizes: short
-// ones are cleared sooner.
+// Writes the report of the module in `ws` to the start of `out`. The order of its words is free. A module that validation refuses takes no notes, any
+// other takes notes of one of three sizes: short ones are cleared sooner.
 pub fn report(ws: &[u32], out: &mut [u32]) -> Answer
     ensures numbers { λ r. ⌜ numbersOf r ≡ reportAnswer (now (ws .entry)) (now (out .entry)) ⌝ }
     ensures lent { λ r. ⌜ ReportLent (now (ws .entry)) (now (out .entry)) (now (out .exit)) ⌝ }
 {
+    let v = validation::number(validation::validate(ws));
+    if v != 0 {
+        return Answer {
+            code: v,
+            written: 0,
+            fresh: 0,
+        };
+    }
     if ws.len() <= 64 {
         let mut notes = [0u32; 64];
         return report_by(ws, &mut notes, out);
@@ -32,9 +40,9 @@ pub fn report(ws: &[u32], out: &mut [u32]) -> Answer
     report_by(ws, &mut notes, out)
 }
 
-// `report` with the notes lent, also for the C entry: as many as the words of a module that is accepted.
+// `report` of a module that validation accepts, also for the C entry; notes for all of its words are lent.
 pub fn report_by(ws: &[u32], notes: &mut [u32], out: &mut [u32]) -> Answer
-    requires { ⌜ (refusal (now ws) ≡ 0 → length (now ws) ≤ length (now notes)) ⌝ }
+    requires { ⌜ (refusal (now ws) ≡ 0) × (length (now ws) ≤ length (now notes)) ⌝ }
     ensures numbers { λ r. ⌜ numbersOf r ≡ reportAnswer (now (ws .entry)) (now (out .entry)) ⌝ }
     ensures lent { λ r. ⌜ ReportLent (now (ws .entry)) (now (out .entry)) (now (out .exit)) ⌝ }
 {

@@ -5,6 +5,7 @@ use Rattle.host.specs.Bytes.{wordsOfBytes, bytesOfWords}
 use Rattle.rewriting.specs.DemandWords.{DemandWords}
 use Rattle.rewriting.specs.Answer.{moduleWords}
 use Rattle.host.specs.BytesLaws.{length-words}
+use Rattle.grammar.specs.Scan.{refusal}
 use Rattle.rewriter.specs.Numbers.{numbersOf}
 use borrow.Author.Tests.{ltb-true, ltb-false}
 use lib.ListN.{length, take}
@@ -17,35 +18,29 @@ use Rattle.host.proofs.rewrite_by.Tie as tie
 
 -- what is known once the call has returned
 called : (c : tie.After-written) →
-    Called (c .before .before .before .before .before .before .before .before .before .before .before .before .before .before .before .before .args .bytes .now) (moduleWords (wordsOfBytes (c .before .before .before .before .before .before .before .before .before .before .before .before .before .before .before .before .args .bytes .now)))
-    (moduleWords (wordsOfBytes (c .before .before .before .before .before .before .before .before .before .before .before .before .before .before .before .before .args .bytes .now)))
-    (c .before .before .before .before .before .before .before .before .before .before .before .before .before .before .before .before .args .written .now) (c .before .before .before .rewrite-by .last .1 .1 .0) (numbersOf (c .before .before .before .rewrite-by .result))
+    Called (c .before .before .before .before .before .before .before .before .before .before .before .before .args .bytes .now) (moduleWords (wordsOfBytes (c .before .before .before .before .before .before .before .before .before .before .before .before .args .bytes .now)))
+    (moduleWords (wordsOfBytes (c .before .before .before .before .before .before .before .before .before .before .before .before .args .bytes .now)))
+    (c .before .before .before .before .before .before .before .before .before .before .before .before .args .written .now) (c .before .before .before .rewrite-by .last .1 .1 .0) (numbersOf (c .before .before .before .rewrite-by .result))
 called c =
-    let g = c .before .before .before .before .before .before .before .before .before .before .before .before .before .before .before .before .args in
+    let g = c .before .before .before .before .before .before .before .before .before .before .before .before .args in
     rewriting-called (g .bytes .now) _ (g .written .now) (c .before .before .before .rewrite-by .last .1 .1 .0) (numbersOf (c .before .before .before .rewrite-by .result))
-    (c .before .before .before .before .before .before .before .before .before .pack .ensures)
-    (c .before .before .before .before .before .before .before .before .before .before .before .before .before .before .before .before .pre .0)
-    (omega (arith, c .before .before .before .before .before .before .before .before .before .before .before .before .before .before .before .before .pre .1, c .before .before .before .before .before .before .before .before .before .before .before .before .before .before .before .before .pre .3))
-    (c .before .before .before .before .before .before .before .before .before .before .before .before .before .before .before .before .pre .4)
+    (c .before .before .before .before .before .before .before .before .before .before .before .before .pre .5)
+    (c .before .before .before .before .before .before .before .before .before .before .before .before .pre .0)
+    (omega (arith, c .before .before .before .before .before .before .before .before .before .before .before .before .pre .1, c .before .before .before .before .before .before .before .before .before .before .before .before .pre .3))
+    (c .before .before .before .before .before .before .before .before .before .before .before .before .pre .4)
     (c .before .before .before .rewrite-by .kept .1 .1 .0)
     (c .before .before .before .rewrite-by .ensures .0)
     (c .before .before .before .rewrite-by .ensures .1 .0)
 
 -- the output is long enough
-room : (c : tie.Else1) → c .before .before .before .before .before .before .rewrite-by .result .written ≤ length (c .before .before .before .before .before .before .before .before .before .before .before .before .before .before .before .before .before .before .before .args .out .now) / 4
-room c = ltb-false (length (c .before .before .before .before .before .before .before .before .before .before .before .before .before .before .before .before .before .before .before .args .out .now) / 4) (c .before .before .before .before .before .before .rewrite-by .result .written) (sym (c .before .is-short .ensures) ∙ c .if1 .left)
-
-pack-requires : tie.Need-pack-requires
-pack-requires c κs = search needs
-
-slice-reshare-prefix-rewrite-by : tie.Need-slice-reshare-prefix-rewrite-by
-slice-reshare-prefix-rewrite-by c = search needs
+room : (c : tie.Else1) → c .before .before .before .before .before .before .rewrite-by .result .written ≤ length (c .before .before .before .before .before .before .before .before .before .before .before .before .before .before .before .args .out .now) / 4
+room c = ltb-false (length (c .before .before .before .before .before .before .before .before .before .before .before .before .before .before .before .args .out .now) / 4) (c .before .before .before .before .before .before .rewrite-by .result .written) (sym (c .before .is-short .ensures) ∙ c .if1 .left)
 
 slice-aggregate-rewrite-by : tie.Need-slice-aggregate-rewrite-by
-slice-aggregate-rewrite-by c = sym (ap length (c .before .before .before .pack .ensures) ∙ length-words (c .before .before .before .before .before .before .before .before .before .before .args .bytes .now))
+slice-aggregate-rewrite-by c = sym (ap length (c .before .before .before .before .before .before .pre .5) ∙ length-words (c .before .before .before .before .before .before .args .bytes .now))
 
 rewrite-by-requires : tie.Need-rewrite-by-requires
-rewrite-by-requires c κs = λ ok. omega (arith, ap length (c .before .before .before .before .before .pack .ensures) ∙ length-words (c .before .before .before .before .before .before .before .before .before .before .before .before .args .bytes .now), c .before .before .before .before .before .before .before .before .before .before .before .before .pre .1, c .before .before .before .before .before .before .before .before .before .before .before .before .pre .2)
+rewrite-by-requires c κs = (ap refusal (c .before .before .before .before .before .before .before .before .pre .5) ∙ c .before .before .before .before .before .before .before .before .pre .6, omega (arith, ap length (c .before .before .before .before .before .before .before .before .pre .5) ∙ length-words (c .before .before .before .before .before .before .before .before .args .bytes .now), c .before .before .before .before .before .before .before .before .pre .1, c .before .before .before .before .before .before .before .before .pre .2))
 
 is-short-requires : tie.Need-is-short-requires
 is-short-requires c κs = search needs
@@ -56,15 +51,12 @@ same-length c = search needs
 same-length-2 : tie.Need-same-length-2
 same-length-2 c = search needs
 
-same-length-3 : tie.Need-same-length-3
-same-length-3 c = search needs
-
 returns : tie.Need-returns
 unfolding rewriteBytes rewriteBytesLent numbersOf answerIn
 returns c =
-    let o = c .before .before .before .before .before .before .before .before .before .before .before .before .before .before .before .before .before .before .before .args .out .now in
+    let o = c .before .before .before .before .before .before .before .before .before .before .before .before .before .before .before .args .out .now in
     let e = called-8 (called (c .before .before .before)) o (ltb-true (length o / 4) (c .before .before .before .before .before .before .rewrite-by .result .written) (sym (c .before .is-short .ensures) ∙ c .if1 .taken)) in
-    (refused-number 8 _ e, (refused-lent 8 _ (bytesOfWords (moduleWords (wordsOfBytes (c .before .before .before .before .before .before .before .before .before .before .before .before .before .before .before .before .before .before .before .args .bytes .now)))) o (λ z. omega arith) e, λ z. absurd (omega arith)))
+    (refused-number 8 _ e, (refused-lent 8 _ (bytesOfWords (moduleWords (wordsOfBytes (c .before .before .before .before .before .before .before .before .before .before .before .before .before .before .before .args .bytes .now)))) o (λ z. omega arith) e, λ z. absurd (omega arith)))
 
 slice-reshare-prefix-unpack : tie.Need-slice-reshare-prefix-unpack
 unfolding numbersOf
@@ -76,10 +68,13 @@ slice-aggregate-unpack c = called-length (called (c .before .before .before .bef
 
 unpack-requires : tie.Need-unpack-requires
 unfolding numbersOf
-unpack-requires c κs = called-room (called (c .before .before .before .before .before)) (c .before .before .before .before .before .before .before .before .before .before .before .before .before .before .before .before .before .before .before .before .before .args .out .now) (room (c .before .before))
+unpack-requires c κs = called-room (called (c .before .before .before .before .before)) (c .before .before .before .before .before .before .before .before .before .before .before .before .before .before .before .before .before .args .out .now) (room (c .before .before))
 
 number-requires : tie.Need-number-requires
 number-requires c κs = called-fields (called (c .before .before .before .before .before .before .before .before))
+
+same-length-3 : tie.Need-same-length-3
+same-length-3 c = search needs
 
 same-length-4 : tie.Need-same-length-4
 same-length-4 c = search needs
@@ -87,22 +82,16 @@ same-length-4 c = search needs
 same-length-5 : tie.Need-same-length-5
 same-length-5 c = search needs
 
-same-length-6 : tie.Need-same-length-6
-same-length-6 c = search needs
-
-same-length-7 : tie.Need-same-length-7
-same-length-7 c = search needs
-
 returns-2 : tie.Need-returns-2
 unfolding rewriteBytes rewriteBytesLent numbersOf
 returns-2 c =
     let k = called (c .before .before .before .before .before .before .before .before .before) in
-    let o = c .before .before .before .before .before .before .before .before .before .before .before .before .before .before .before .before .before .before .before .before .before .before .before .before .before .args .out .now in
+    let o = c .before .before .before .before .before .before .before .before .before .before .before .before .before .before .before .before .before .before .before .before .before .args .out .now in
     let h = room (c .before .before .before .before .before .before) in (
       c .number .ensures ∙ ap numberOf (called-answer k o h),
       (
         called-lent k o h (c .before .before .before .unpack .ensures .0),
-        called-demand k o h (c .number .result) (c .number .ensures) (λ z. subst (λ l. DemandWords l (take (c .before .before .before .before .before .before .before .before .before .before .before .before .rewrite-by .result .written) (c .before .before .before .before .before .before .before .before .before .before .before .before .rewrite-by .last .1 .1 .0))) (c .before .before .before .before .before .before .before .before .before .before .before .before .before .before .before .before .before .before .pack .ensures) (c .before .before .before .before .before .before .before .before .before .before .before .before .rewrite-by .ensures .1 .1 z)) (c .before .before .before .unpack .ensures .0) (c .before .before .before .unpack .ensures .1),
+        called-demand k o h (c .number .result) (c .number .ensures) (λ z. subst (λ l. DemandWords l (take (c .before .before .before .before .before .before .before .before .before .before .before .before .rewrite-by .result .written) (c .before .before .before .before .before .before .before .before .before .before .before .before .rewrite-by .last .1 .1 .0))) (c .before .before .before .before .before .before .before .before .before .before .before .before .before .before .before .before .before .before .before .before .before .pre .5) (c .before .before .before .before .before .before .before .before .before .before .before .before .rewrite-by .ensures .1 .1 z)) (c .before .before .before .unpack .ensures .0) (c .before .before .before .unpack .ensures .1),
       ),
     )
 
@@ -110,21 +99,17 @@ pub rewrite-by-spec : {M : Type 1} → statement M
 rewrite-by-spec =
     tie.close
     (tie.spec
-    pack-requires
-    slice-reshare-prefix-rewrite-by
     slice-aggregate-rewrite-by
     rewrite-by-requires
     is-short-requires
     same-length
     same-length-2
-    same-length-3
     returns
     slice-reshare-prefix-unpack
     slice-aggregate-unpack
     unpack-requires
     number-requires
+    same-length-3
     same-length-4
     same-length-5
-    same-length-6
-    same-length-7
     returns-2)
