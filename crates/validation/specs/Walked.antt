@@ -1,13 +1,13 @@
 -- What the functions promise: the scan of the places that wait comes to their answer, whatever waits behind. Definitions only.
 use mathlib.Core.Path.{_≡_}
 use mathlib.Core.Bool.{cond}
-use mathlib.Core.List.{List, [], _++_}
+use mathlib.Core.List.{List, [], _∷_, _++_}
 use Prim.Native.Nat.{ℕ, zero, suc, _+_, _-_, _*_, _/_, _%_, _<_, _≤_}
 use lib.ListN.{length, replicate, drop, getD}
 use lib.Dec.{eqb}
 use Rattle.words.specs.Shape.{bitOf}
 use Rattle.grammar.specs.Limits.{maxDepth}
-use Rattle.grammar.specs.Grammar.{slot, rowOf}
+use Rattle.grammar.specs.Grammar.{slot, rowOf, module′}
 use Rattle.grammar.specs.Scan.{Place, place, judge, faultAt}
 use Rattle.validation.specs.declared.Step.{Step}
 use Rattle.validation.specs.declared.Run.{Run}
@@ -19,6 +19,11 @@ after s ws st r = cond (eqb (r .fault) 0) (judge s st (drop (r .next) ws)) (r .f
 -- the records for the places qs, from `at` on, were walked
 pub record Walked (s : ℕ) (ws : List ℕ) (at : ℕ) (qs : List Place) (r : Step) : Type 0 where
   pub scan : (st : List Place) → judge s (qs ++ st) (drop at ws) ≡ after s ws st r
+
+-- the module's record was walked, or a stack of n entries is too short for that: one of 256 never is
+pub record Scanned (s : ℕ) (ws : List ℕ) (n : ℕ) (r : Step) : Type 0 where
+  pub short : r .fault ≡ 7 → n < 256
+  pub walked : (r .fault ≡ 7 → ⊥) → Walked s ws 0 (place module′ 1 ∷ []) r
 
 -- what is left of a walk of the places qs from `at` on: that of the places more from p on
 pub record Rest (s : ℕ) (ws : List ℕ) (at : ℕ) (qs : List Place) (p : ℕ) (more : List Place) : Type 0 where
@@ -66,9 +71,9 @@ unfoldable pub waiting : List ℕ → ℕ → List Place
 waiting es zero = []
 waiting es (suc n) = run (getD es n 0 % 16) (getD es n 0 / 2048 % 67108864) (getD es n 0 / 16 % 128) (getD es n 0 / 137438953472) ++ waiting es n
 
--- none of them is empty, and each leaves room for its levels
+-- they are there, none of them is empty, and each leaves room for its levels
 pub record Room (es : List ℕ) (n : ℕ) : Type 0 where
-  pub size : length es ≡ 256
+  pub inside : n ≤ length es
   pub some : (i : ℕ) → i < n → getD es i 0 / 137438953472 ≡ 0 → ⊥
   pub levels : (i : ℕ) → i < n → i + 4 * (getD es i 0 / 16 % 128) ≤ 256
   pub counts : (i : ℕ) → i < n → getD es i 0 / 137438953472 < 134217728

@@ -13,13 +13,13 @@ use Rattle.words.specs.Table.{lookup}
 use Rattle.words.specs.Shape.{bitOf}
 use Rattle.words.specs.Word.{kindOf, payloadOf, children}
 use Rattle.grammar.specs.Limits.{maxDepth}
-use Rattle.grammar.specs.Grammar.{slot, Run, Row, row, noRow, leaf, expressions, oneExpression, statements, table, rowOf, expression, Statement}
+use Rattle.grammar.specs.Grammar.{slot, Run, Row, row, noRow, leaf, expressions, oneExpression, statements, table, rowOf, expression, Statement, module′}
 use Rattle.grammar.specs.Scan.{Place, place, places, below, belowAt, faultAt, judge}
 use Rattle.grammar.specs.Rows.{each, each-row, implied, test-left, test-right, allowed-known, total, total-below}
-use Rattle.grammar.specs.Faults.{Faultless, fault-0}
+use Rattle.grammar.specs.Faults.{Faultless, fault-0, fault-le}
 use Rattle.validation.specs.declared.Step.{Step}
 use Rattle.validation.specs.declared.Run as Declared
-use Rattle.validation.specs.Walked.{ahead, Good, after, Walked, Rest, Here, leaves, plain, Apart, run, Fields, Entry, waiting, Room, Stacked}
+use Rattle.validation.specs.Walked.{ahead, Good, after, Walked, Scanned, Rest, Here, leaves, plain, Apart, run, Fields, Entry, waiting, Room, Stacked}
 
 -- ---- the stack
 
@@ -36,10 +36,7 @@ module _ (es : List ℕ) (top c x left n e : ℕ) (f : Fields c x n) (r : Room e
   unfolding run
   stacked-none z = record { places = rw z; room = r; few = omega arith }
 
-  module _ (some : n ≡ 0 → ⊥) (b : top < 256) (h : top + 4 * left ≤ 256) (t : Entry c x left n e) where
-    i : top < length es
-    i = omega (arith, r .size)
-
+  module _ (some : n ≡ 0 → ⊥) (i : top < length es) (h : top + 4 * left ≤ 256) (t : Entry c x left n e) where
     waiting-push : waiting (set es top e) (top + 1) ≡ run c x left n ++ waiting es top
     unfolding waiting
     waiting-push =
@@ -64,7 +61,7 @@ module _ (es : List ℕ) (top c x left n e : ℕ) (f : Fields c x n) (r : Room e
     stacked-one = record {
       places = waiting-push;
       room = record {
-        size = length-set es top e ∙ r .size;
+        inside = let l = length-set es top e in omega arith;
         some = all-push (λ j m. m / 137438953472 ≡ 0 → ⊥) (λ z. some (sym (t .count) ∙ z)) (r .some);
         levels = all-push (λ j m. j + 4 * (m / 16 % 128) ≤ 256) (omega (arith, t .left)) (r .levels);
         counts = all-push (λ j m. m / 137438953472 < 134217728) (omega (arith, t .count, f .count)) (r .counts);
@@ -103,7 +100,7 @@ module _ (es : List ℕ) (g : Declared.Run) where
         sym (rw z (ap (waiting es) e)),
         record {
           fields = record { category = omega arith; context = omega arith; count = h .room .counts (g .top - 1) i };
-          room = record { size = h .room .size; some = λ j l. h .room .some j (omega arith); levels = λ j l. h .room .levels j (omega arith); counts = λ j l. h .room .counts j (omega arith) };
+          room = record { inside = omega (arith, h .room .inside); some = λ j l. h .room .some j (omega arith); levels = λ j l. h .room .levels j (omega arith); counts = λ j l. h .room .counts j (omega arith) };
           levels = h .room .levels (g .top - 1) i;
         },
         λ y. absurd (h .room .some (g .top - 1) i y),
@@ -133,6 +130,18 @@ module _ {s : ℕ} {ws : List ℕ} {at : ℕ} where
   walked-none : Walked s ws at [] (record { fault = 0; next = at })
   unfolding after
   walked-none = record { scan = λ st. refl }
+
+-- no fault of a word is the number 7
+pub fault-six : (s : ℕ) (q : Place) (w f : ℕ) → f ≡ faultAt s q w → f ≤ 6
+unfolding faultAt
+fault-six s q w f e = subst (_≤ 6) (sym e) (fault-le s q (kindOf w) (payloadOf w))
+
+module _ {s : ℕ} {ws : List ℕ} {n : ℕ} {r : Step} where
+  pub scanned : r .fault ≤ 6 → Walked s ws 0 (place module′ 1 ∷ []) r → Scanned s ws n r
+  scanned h w = record { short = λ z. absurd (omega arith); walked = λ m. w }
+
+  pub scanned-short : r .fault ≡ 7 → n < 256 → Scanned s ws n r
+  scanned-short e h = record { short = λ z. h; walked = λ m. absurd (m e) }
 
 pub rest-as : {s : ℕ} {ws : List ℕ} {at : ℕ} {qs : List Place} {p : ℕ} {more less : List Place} → more ≡ less → Rest s ws at qs p more → Rest s ws at qs p less
 rest-as {s} {ws} {at} {qs} {p} e h = subst (Rest s ws at qs p) e h

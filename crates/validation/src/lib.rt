@@ -1,13 +1,14 @@
 // Validation: refusals 1 to 6 of a module's words. Reads the words, writes nothing.
 ghost use mathlib.Core.Path.{_≡_};
 ghost use mathlib.Core.List.{[], _∷_, _++_};
+ghost use lib.ListN.{length};
 ghost use Prim.Native.Nat.{_+_, _-_, _*_, _/_, _%_, _<_, _≤_};
 ghost use Rattle.words.specs.Word.{kindOf, payloadOf};
 ghost use Rattle.grammar.specs.Limits.{maxDepth};
 ghost use Rattle.grammar.specs.Grammar.{_of_, rowOf, module′, id, expression, body, key, methodParameters, code};
 ghost use Rattle.grammar.specs.Scan.{place, places, symbolsOf, refusal};
 ghost use Rattle.validation.specs.Verdict.{numberOf};
-ghost use Rattle.validation.specs.Walked.{Walked, Apart, Fields, Entry, Room, run, Good, ahead, waiting, Stacked};
+ghost use Rattle.validation.specs.Walked.{Walked, Scanned, Apart, Fields, Entry, Room, run, Good, ahead, waiting, Stacked};
 
 pub enum Verdict {
     Accepted,
@@ -68,6 +69,9 @@ const PLAIN_KINDS: u64 = 1 << 2
 // The other runs that wait stand on a stack, the next one on top. A level takes four entries or fewer.
 const ROOM: usize = 256;
 
+// The fault of no module: the lent stack is too short.
+const NO_ROOM: u32 = 7;
+
 // An entry of the stack.
 fn entry_of(category: u8, context: u32, left: u32, n: u64) -> u64
     requires { ⌜ Fields category context n × (left ≤ maxDepth) ⌝ }
@@ -77,8 +81,8 @@ fn entry_of(category: u8, context: u32, left: u32, n: u64) -> u64
 }
 
 // The run of n places on top. Answers the new top.
-fn push(stack: &mut [u64; ROOM], top: usize, category: u8, context: u32, left: u32, n: u64) -> usize
-    requires { ⌜ Fields category context n × Room (now stack) top × (top < 256) × (top + 4 * left ≤ 256) ⌝ }
+fn push(stack: &mut [u64], top: usize, category: u8, context: u32, left: u32, n: u64) -> usize
+    requires { ⌜ Fields category context n × Room (now stack) top × (top < length (now stack)) × (top + 4 * left ≤ 256) ⌝ }
     ensures { λ r. ⌜ Stacked (now (stack .entry)) top (run category context left n) 1 (now (stack .exit)) r ⌝ }
 {
     if n == 0 {
@@ -89,8 +93,8 @@ fn push(stack: &mut [u64; ROOM], top: usize, category: u8, context: u32, left: u
 }
 
 // The children of a class behind its decorators.
-fn push_class(stack: &mut [u64; ROOM], top: usize, left: u32, flags: u32) -> usize
-    requires { ⌜ Room (now stack) top × (top + 3 + 4 * left ≤ 256) ⌝ }
+fn push_class(stack: &mut [u64], top: usize, left: u32, flags: u32) -> usize
+    requires { ⌜ Room (now stack) top × (top + 3 ≤ length (now stack)) × (top + 3 + 4 * left ≤ 256) ⌝ }
     ensures { λ r. ⌜ Stacked (now (stack .entry)) top (places (maxDepth + 1 - left) ((flags % 2) of id ∷ (flags / 4 % 2) of expression ∷ 1 of body ∷ [])) 3 (now (stack .exit)) r ⌝ }
 {
     let a = push(stack, top, grammar::BODY, grammar::PLAIN, left, 1);
@@ -113,8 +117,8 @@ fn push_class(stack: &mut [u64; ROOM], top: usize, left: u32, flags: u32) -> usi
 }
 
 // The same of a method; of a property or an accessor with n values.
-fn push_method(stack: &mut [u64; ROOM], top: usize, left: u32, flags: u32) -> usize
-    requires { ⌜ Room (now stack) top × (top + 3 + 4 * left ≤ 256) ⌝ }
+fn push_method(stack: &mut [u64], top: usize, left: u32, flags: u32) -> usize
+    requires { ⌜ Room (now stack) top × (top + 3 ≤ length (now stack)) × (top + 3 + 4 * left ≤ 256) ⌝ }
     ensures { λ r. ⌜ Stacked (now (stack .entry)) top (places (maxDepth + 1 - left) (1 of key ∷ 1 of methodParameters ∷ (flags / 4 % 2) of code ∷ [])) 3 (now (stack .exit)) r ⌝ }
 {
     let a = push(
@@ -129,8 +133,8 @@ fn push_method(stack: &mut [u64; ROOM], top: usize, left: u32, flags: u32) -> us
     push(stack, b, grammar::EXPRESSION, grammar::AS_KEY, left, 1)
 }
 
-fn push_field(stack: &mut [u64; ROOM], top: usize, left: u32, n: u64) -> usize
-    requires { ⌜ Room (now stack) top × (top + 3 + 4 * left ≤ 256) × (n < 2) ⌝ }
+fn push_field(stack: &mut [u64], top: usize, left: u32, n: u64) -> usize
+    requires { ⌜ Room (now stack) top × (top + 3 ≤ length (now stack)) × (top + 3 + 4 * left ≤ 256) × (n < 2) ⌝ }
     ensures { λ r. ⌜ Stacked (now (stack .entry)) top (places (maxDepth + 1 - left) (1 of key ∷ n of expression ∷ [])) 2 (now (stack .exit)) r ⌝ }
 {
     let a = push(stack, top, grammar::EXPRESSION, grammar::PLAIN, left, n);
@@ -138,8 +142,8 @@ fn push_field(stack: &mut [u64; ROOM], top: usize, left: u32, n: u64) -> usize
 }
 
 // The children of a record whose kind is in neither set: the first run, the others below it on the stack.
-fn children(stack: &mut [u64; ROOM], top: usize, context: u32, left: u32, w: u32) -> Run
-    requires { ⌜ Apart (kindOf w) × Room (now stack) top × (top + 3 + 4 * left ≤ 256) × (context < 67108864) ⌝ }
+fn children(stack: &mut [u64], top: usize, context: u32, left: u32, w: u32) -> Run
+    requires { ⌜ Apart (kindOf w) × Room (now stack) top × (top + 3 ≤ length (now stack)) × (top + 3 + 4 * left ≤ 256) × (context < 67108864) ⌝ }
     ensures { λ r. ⌜ (ahead (now (stack .exit)) r ≡ places (maxDepth + 1 - left) (rowOf (kindOf w) .below context (payloadOf w)) ++ waiting (now (stack .entry)) top) × Good (now (stack .exit)) r ⌝ }
 {
     let p = words::payload_of(w);
@@ -254,7 +258,7 @@ fn children(stack: &mut [u64; ROOM], top: usize, context: u32, left: u32, w: u32
 }
 
 // The run itself, or the next one of the stack if it has no place; none has a place if that has none.
-fn next(stack: &[u64; ROOM], run: Run) -> Run
+fn next(stack: &[u64], run: Run) -> Run
     requires { ⌜ Good (now stack) run ⌝ }
     ensures { λ r. ⌜ (ahead (now (stack .entry)) r ≡ ahead (now (stack .entry)) run) × Good (now (stack .entry)) r × (r .count ≡ 0 → ahead (now (stack .entry)) run ≡ []) ⌝ }
 {
@@ -275,11 +279,11 @@ fn next(stack: &[u64; ROOM], run: Run) -> Run
     }
 }
 
-// The scan of the words, `s` being the number of symbols: the first fault, or the place behind the module's record.
-fn scan(ws: &[u32], s: u32) -> Step
-    ensures { λ r. ⌜ Walked s (now (ws .entry)) 0 (place module′ 1 ∷ []) r ⌝ }
+// The scan of the words, `s` being the number of symbols: the first fault, or the place behind the module's record; or `NO_ROOM` where the lent stack
+// is too short. One of 256 entries never is.
+fn scan(ws: &[u32], s: u32, stack: &mut [u64]) -> Step
+    ensures { λ r. ⌜ Scanned s (now (ws .entry)) (length (now (stack .entry))) r ⌝ }
 {
-    let mut stack = [0u64; ROOM];
     let mut run = Run {
         category: grammar::MODULE,
         context: grammar::PLAIN,
@@ -289,7 +293,7 @@ fn scan(ws: &[u32], s: u32) -> Step
     };
     let mut at = 0usize;
     loop {
-        let r = next(&stack, run);
+        let r = next(stack, run);
         if r.count == 0 {
             return Step { fault: 0, next: at };
         }
@@ -312,16 +316,15 @@ fn scan(ws: &[u32], s: u32) -> Step
             };
             continue;
         }
-        let t = push(
-            &mut stack,
-            r.top,
-            r.category,
-            r.context,
-            r.left,
-            r.count - 1,
-        );
+        if stack.len() < r.top + 4 {
+            return Step {
+                fault: NO_ROOM,
+                next: at,
+            };
+        }
+        let t = push(stack, r.top, r.category, r.context, r.left, r.count - 1);
         if words::kind_bit(PLAIN_KINDS, w) == 0 {
-            run = children(&mut stack, t, r.context, r.left - 1, w);
+            run = children(stack, t, r.context, r.left - 1, w);
             continue;
         }
         run = Run {
@@ -332,6 +335,21 @@ fn scan(ws: &[u32], s: u32) -> Step
             top: t,
         };
     }
+}
+
+// The scan with a stack that is long enough. A short module has a short one first: it is cleared sooner.
+fn scan_all(ws: &[u32], s: u32) -> Step
+    ensures { λ r. ⌜ Walked s (now (ws .entry)) 0 (place module′ 1 ∷ []) r ⌝ }
+{
+    if ws.len() <= 64 {
+        let mut few = [0u64; 32];
+        let r = scan(ws, s, &mut few);
+        if r.fault != NO_ROOM {
+            return r;
+        }
+    }
+    let mut stack = [0u64; ROOM];
+    scan(ws, s, &mut stack)
 }
 
 // The number of symbols that the second word says.
@@ -371,7 +389,7 @@ pub fn validate(ws: &[u32]) -> Verdict
         return Verdict::BadLength;
     }
     let s = symbol_count(ws);
-    let r = scan(ws, s);
+    let r = scan_all(ws, s);
     let f = r.fault;
     if f != 0 {
         return verdict_of(f);

@@ -2,6 +2,7 @@
 use Rattle.validation.specs.Walks.{pop, none-left}
 use mathlib.Core.Path.{refl}
 use borrow.Author.Needs.{needs}
+use native.Mathlib.Omega.{arith}
 use Rattle.validation.proofs.next.Statement.{statement}
 use Rattle.validation.proofs.next.Tie as tie
 
@@ -17,17 +18,17 @@ sub-top c = search needs
 mul-e : tie.Need-mul-e
 mul-e c = search needs
 
-element-copy-out-e : tie.Need-element-copy-out-e
-element-copy-out-e c = search needs
+shared-slice-read-e : tie.Need-shared-slice-read-e
+shared-slice-read-e c = omega (arith, c .before .before .if2 .left, c .before .before .before .before .before .before .pre .room .inside)
 
-cast-t10 : tie.Need-cast-t10
-cast-t10 c = search needs
+cast-t9 : tie.Need-cast-t9
+cast-t9 c = search needs
 
-cast-t13 : tie.Need-cast-t13
-cast-t13 c = search needs
+cast-t12 : tie.Need-cast-t12
+cast-t12 c = search needs
 
-cast-t16 : tie.Need-cast-t16
-cast-t16 c = search needs
+cast-t15 : tie.Need-cast-t15
+cast-t15 c = search needs
 
 returns-3 : tie.Need-returns-3
 returns-3 c = pop (c .before .before .before .before .before .before .args .stack .now) (c .before .before .before .before .before .before .args .run) (c .before .before .before .before .before .before .pre) (c .before .before .before .before .if1 .left) (c .before .before .if2 .left)
@@ -40,8 +41,8 @@ next-spec =
     returns-2
     sub-top
     mul-e
-    element-copy-out-e
-    cast-t10
-    cast-t13
-    cast-t16
+    shared-slice-read-e
+    cast-t9
+    cast-t12
+    cast-t15
     returns-3)

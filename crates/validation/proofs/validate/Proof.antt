@@ -18,22 +18,22 @@ returns-2 c = refused-long (c .before .before .before .args .ws .now) (c .before
 symbol-count-requires : tie.Need-symbol-count-requires
 symbol-count-requires c κs = search needs
 
-scan-requires : tie.Need-scan-requires
-scan-requires c κs = search needs
+scan-all-requires : tie.Need-scan-all-requires
+scan-all-requires c κs = search needs
 
 verdict-of-requires : tie.Need-verdict-of-requires
-verdict-of-requires c κs = fault-le (c .before .before .before .before .before .before .args .ws .now) (c .before .before .symbol-count .result) (c .before .before .symbol-count .ensures) (c .before .before .before .before .if1 .left) (c .before .before .before .if2 .left) (c .before .scan .ensures) (c .if3 .taken)
+verdict-of-requires c κs = fault-le (c .before .before .before .before .before .before .args .ws .now) (c .before .before .symbol-count .result) (c .before .before .symbol-count .ensures) (c .before .before .before .before .if1 .left) (c .before .before .before .if2 .left) (c .before .scan-all .ensures) (c .if3 .taken)
 
 returns-3 : tie.Need-returns-3
-returns-3 c = c .verdict-of .ensures ∙ refused-fault (c .before .before .before .before .before .before .before .args .ws .now) (c .before .before .before .symbol-count .result) (c .before .before .before .symbol-count .ensures) (c .before .before .before .before .before .if1 .left) (c .before .before .before .before .if2 .left) (c .before .before .scan .ensures) (c .before .if3 .taken)
+returns-3 c = c .verdict-of .ensures ∙ refused-fault (c .before .before .before .before .before .before .before .args .ws .now) (c .before .before .before .symbol-count .result) (c .before .before .before .symbol-count .ensures) (c .before .before .before .before .before .if1 .left) (c .before .before .before .before .if2 .left) (c .before .before .scan-all .ensures) (c .before .if3 .taken)
 
 returns-4 : tie.Need-returns-4
 unfolding numberOf
-returns-4 c = refused-left (c .before .before .before .before .before .before .before .before .args .ws .now) (c .before .before .before .before .symbol-count .result) (c .before .before .before .before .symbol-count .ensures) (c .before .before .before .before .before .before .if1 .left) (c .before .before .before .before .before .if2 .left) (c .before .before .before .scan .ensures) (c .before .before .if3 .left) (c .if4 .taken)
+returns-4 c = refused-left (c .before .before .before .before .before .before .before .before .args .ws .now) (c .before .before .before .before .symbol-count .result) (c .before .before .before .before .symbol-count .ensures) (c .before .before .before .before .before .before .if1 .left) (c .before .before .before .before .before .if2 .left) (c .before .before .before .scan-all .ensures) (c .before .before .if3 .left) (c .if4 .taken)
 
 returns-5 : tie.Need-returns-5
 unfolding numberOf
-returns-5 c = accepted-all (c .before .before .before .before .before .before .before .before .args .ws .now) (c .before .before .before .before .symbol-count .result) (c .before .before .before .before .symbol-count .ensures) (c .before .before .before .before .before .before .if1 .left) (c .before .before .before .before .before .if2 .left) (c .before .before .before .scan .ensures) (c .before .before .if3 .left) (c .if4 .left)
+returns-5 c = accepted-all (c .before .before .before .before .before .before .before .before .args .ws .now) (c .before .before .before .before .symbol-count .result) (c .before .before .before .before .symbol-count .ensures) (c .before .before .before .before .before .before .if1 .left) (c .before .before .before .before .before .if2 .left) (c .before .before .before .scan-all .ensures) (c .before .before .if3 .left) (c .if4 .left)
 
 pub validate-spec : {M : Type 1} → statement M
 validate-spec =
@@ -42,7 +42,7 @@ validate-spec =
     returns
     returns-2
     symbol-count-requires
-    scan-requires
+    scan-all-requires
     verdict-of-requires
     returns-3
     returns-4
