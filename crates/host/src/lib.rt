@@ -13,7 +13,8 @@ ghost use Rattle.host.specs.Bytes.{wordFrom, wordsOfBytes, bytesFrom, by
 ghost use Rattle.host.specs.Entry.{numberOf, InFields, answerIn, isBadLength, rewriteBytes, rewriteBytesLent, reportBytes, ReportBytesLent};
 
 // Rewrites the module in `bytes`; the answer's bytes go to the start of `out`. The number holds the three answers.
-// A module of at most 64 words has its arrays here, a longer one in `long_call`: a short one then has a small frame and little to clear.
+// A module of at most 64 words has its arrays here, a longer one in `long_call` or `longest_call`: a short one then has a small frame and little to
+// clear.
 #[no_mangle]
 pub extern "C" fn gingerpost_rewrite(bytes: &[u8], out: &mut [u8]) -> u64
     ensures number { λ r. ⌜ r ≡ numberOf (rewriteBytes (now (bytes .entry)) (now (out .entry))) ⌝ }
@@ -33,7 +34,10 @@ pub extern "C" fn gingerpost_rewrite(bytes: &[u8], out: &mut [u8]) -> u64
         let mut written = [0u32; 192];
         return rewrite_by(bytes, &ws, &mut notes, &mut written, out);
     }
-    long_call(bytes, out, false)
+    if bytes.len() <= 2048 {
+        return long_call(bytes, out, false);
+    }
+    longest_call(bytes, out, false)
 }
 
 // `gingerpost_rewrite` of a module that validation accepts: `ws` has its words. `notes` is lent for as many notes, `written` for the answer's words, at
@@ -79,7 +83,10 @@ pub extern "C" fn gingerpost_report(bytes: &[u8], out: &mut [u8]) -> u64
         let mut written = [0u32; 21];
         return report_by(bytes, &ws, &mut notes, &mut written, out);
     }
-    long_call(bytes, out, true)
+    if bytes.len() <= 2048 {
+        return long_call(bytes, out, true);
+    }
+    longest_call(bytes, out, true)
 }
 
 // `gingerpost_report` of a module that validation accepts: `ws` has its words. `notes` is lent for as many notes, `written` for the report's words, at
@@ -105,10 +112,10 @@ fn report_by(
     number(r)
 }
 
-// The call on a longer module: its report where that is asked for, else its rewriting. One function with arrays of three sizes, for both entries: the
-// compiler then doesn't merge it into them, and their own frames stay small.
+// The call on a module of more than 64 words, and at most 512: its report where that is asked for, else its rewriting. One function for both entries,
+// with arrays of two sizes: the compiler then doesn't merge it into them, and their own frames stay small.
 fn long_call(bytes: &[u8], out: &mut [u8], report: bool) -> u64
-    requires { ⌜ (length (now bytes) % 4 ≡ 0) × (length (now bytes) ≤ 16384) ⌝ }
+    requires { ⌜ (length (now bytes) % 4 ≡ 0) × (length (now bytes) ≤ 2048) ⌝ }
     ensures rewritten { λ r. ⌜ (report ≡ false → (r ≡ numberOf (rewriteBytes (now (bytes .entry)) (now (out .entry)))) × ((now (out .exit) ≡ rewriteBytesLent (now (bytes .entry)) (now (out .entry))) × (answerIn r .code ≡ 0 → DemandWords (wordsOfBytes (now (bytes .entry))) (take (answerIn r .written) (wordsOfBytes (now (out .exit))))))) ⌝ }
     ensures reported { λ r. ⌜ (report ≡ true → (r ≡ numberOf (reportBytes (now (bytes .entry)) (now (out .entry)))) × ReportBytesLent (now (bytes .entry)) (now (out .entry)) (now (out .exit))) ⌝ }
 {
@@ -125,14 +132,33 @@ fn long_call(bytes: &[u8], out: &mut [u8], report: bool) -> u64
         }
         return rewrite_by(bytes, &ws, &mut notes, &mut written, out);
     }
-    if bytes.len() <= 2048 {
-        let mut ws = [0u32; 512];
+    let mut ws = [0u32; 512];
+    let v = read(bytes, &mut ws);
+    if v != 0 {
+        return v as u64;
+    }
+    let mut notes = [0u32; 512];
+    let mut written = [0u32; 1536];
+    if report {
+        return report_by(bytes, &ws, &mut notes, &mut written, out);
+    }
+    rewrite_by(bytes, &ws, &mut notes, &mut written, out)
+}
+
+// The same on a module of more than 512 words. It stands apart, since a frame's pages are touched one by one as it is entered.
+fn longest_call(bytes: &[u8], out: &mut [u8], report: bool) -> u64
+    requires { ⌜ (length (now bytes) % 4 ≡ 0) × (length (now bytes) ≤ 16384) ⌝ }
+    ensures rewritten { λ r. ⌜ (report ≡ false → (r ≡ numberOf (rewriteBytes (now (bytes .entry)) (now (out .entry)))) × ((now (out .exit) ≡ rewriteBytesLent (now (bytes .entry)) (now (out .entry))) × (answerIn r .code ≡ 0 → DemandWords (wordsOfBytes (now (bytes .entry))) (take (answerIn r .written) (wordsOfBytes (now (out .exit))))))) ⌝ }
+    ensures reported { λ r. ⌜ (report ≡ true → (r ≡ numberOf (reportBytes (now (bytes .entry)) (now (out .entry)))) × ReportBytesLent (now (bytes .entry)) (now (out .entry)) (now (out .exit))) ⌝ }
+{
+    if bytes.len() <= 4096 {
+        let mut ws = [0u32; 1024];
         let v = read(bytes, &mut ws);
         if v != 0 {
             return v as u64;
         }
-        let mut notes = [0u32; 512];
-        let mut written = [0u32; 1536];
+        let mut notes = [0u32; 1024];
+        let mut written = [0u32; 3072];
         if report {
             return report_by(bytes, &ws, &mut notes, &mut written, out);
         }

@@ -1,4 +1,4 @@
--- `gingerpost_report`: as `gingerpost_rewrite`; the rest is `report_by` or `long_call`.
+-- `gingerpost_report`: as `gingerpost_rewrite`; the rest is `report_by`, `long_call` or `longest_call`.
 use Rattle.host.specs.EntryLaws.{good-length, answer-bad, refused-number, refused-lent, report-refused}
 use Rattle.host.specs.Entry.{reportBytes}
 use Rattle.host.specs.Bytes.{wordsOfBytes, bytesOfWords}
@@ -58,13 +58,24 @@ returns-3 : tie.Need-returns-3
 returns-3 c = search needs
 
 long-call-requires : tie.Need-long-call-requires
-long-call-requires c κs = good-length (length (c .before .before .before .before .before .before .args .bytes .now)) (sym (c .before .before .before .is-bad-length .ensures) ∙ c .before .before .if1 .left)
+long-call-requires c κs =
+    let good = good-length (length (c .before .before .before .before .before .before .before .args .bytes .now)) (sym (c .before .before .before .before .is-bad-length .ensures) ∙ c .before .before .before .if1 .left) in
+    (good .0, omega arith)
 
 same-length-2 : tie.Need-same-length-2
 same-length-2 c = search needs
 
 returns-4 : tie.Need-returns-4
 returns-4 c = c .before .before .long-call .ensures .1 refl
+
+longest-call-requires : tie.Need-longest-call-requires
+longest-call-requires c κs = good-length (length (c .before .before .before .before .before .before .before .args .bytes .now)) (sym (c .before .before .before .before .is-bad-length .ensures) ∙ c .before .before .before .if1 .left)
+
+same-length-3 : tie.Need-same-length-3
+same-length-3 c = search needs
+
+returns-5 : tie.Need-returns-5
+returns-5 c = c .before .before .longest-call .ensures .1 refl
 
 pub gingerpost-report-spec : {M : Type 1} → statement M
 gingerpost-report-spec =
@@ -84,4 +95,7 @@ gingerpost-report-spec =
     returns-3
     long-call-requires
     same-length-2
-    returns-4)
+    returns-4
+    longest-call-requires
+    same-length-3
+    returns-5)

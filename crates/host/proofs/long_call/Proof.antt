@@ -1,4 +1,4 @@
--- `long_call`: at most 128, 512 or 4,096 words; what validation refuses, and else `report_by` or `rewrite_by`, as was asked.
+-- `long_call`: at most 128 or 512 words; what validation refuses, and else `report_by` or `rewrite_by`, as was asked.
 use Rattle.host.specs.EntryLaws.{rewriting-refused, report-refused}
 use Rattle.rewriting.specs.Roles.{never}
 use native.Mathlib.Omega.{arith}
@@ -59,13 +59,13 @@ slice-aggregate-read-2 : tie.Need-slice-aggregate-read-2
 slice-aggregate-read-2 c = search needs
 
 read-requires-2 : tie.Need-read-requires-2
-read-requires-2 c κs = (c .before .before .before .before .before .pre .0, omega (arith, c .before .before .before .before .before .pre .1))
+read-requires-2 c κs = (c .before .before .before .before .pre .0, omega (arith, c .before .before .before .before .pre .1))
 
 cast-result-2 : tie.Need-cast-result-2
 cast-result-2 c = search needs
 
 returns-4 : tie.Need-returns-4
-returns-4 c = (λ z. rewriting-refused (c .before .before .before .before .before .before .before .before .args .bytes .now) (c .before .before .before .before .before .before .before .before .args .out .now) (c .before .before .read2 .result) (c .before .before .before .before .before .before .before .before .pre .0) (c .before .before .read2 .ensures .1) (c .if5 .taken), λ z. report-refused (c .before .before .before .before .before .before .before .before .args .bytes .now) (c .before .before .before .before .before .before .before .before .args .out .now) (c .before .before .read2 .result) (c .before .before .before .before .before .before .before .before .pre .0) (c .before .before .read2 .ensures .1) (c .if5 .taken))
+returns-4 c = (λ z. rewriting-refused (c .before .before .before .before .before .before .before .args .bytes .now) (c .before .before .before .before .before .before .before .args .out .now) (c .before .before .read2 .result) (c .before .before .before .before .before .before .before .pre .0) (c .before .before .read2 .ensures .1) (c .if4 .taken), λ z. report-refused (c .before .before .before .before .before .before .before .args .bytes .now) (c .before .before .before .before .before .before .before .args .out .now) (c .before .before .read2 .result) (c .before .before .before .before .before .before .before .pre .0) (c .before .before .read2 .ensures .1) (c .if4 .taken))
 
 slice-aggregate-report-by-4 : tie.Need-slice-aggregate-report-by-4
 slice-aggregate-report-by-4 c = search needs
@@ -77,13 +77,13 @@ slice-aggregate-report-by-6 : tie.Need-slice-aggregate-report-by-6
 slice-aggregate-report-by-6 c = search needs
 
 report-by-requires-2 : tie.Need-report-by-requires-2
-report-by-requires-2 c κs = (c .before .before .before .before .before .before .before .before .before .before .before .before .before .pre .0, omega (arith, c .before .before .before .before .before .before .before .before .before .before .before .before .before .pre .1), omega arith, omega arith, omega arith, c .before .before .before .before .before .before .before .read2 .ensures .0, sym (c .before .before .before .before .before .before .before .read2 .ensures .1) ∙ c .before .before .before .before .before .if5 .left)
+report-by-requires-2 c κs = (c .before .before .before .before .before .before .before .before .before .before .before .before .pre .0, omega (arith, c .before .before .before .before .before .before .before .before .before .before .before .before .pre .1), omega arith, omega arith, omega arith, c .before .before .before .before .before .before .before .read2 .ensures .0, sym (c .before .before .before .before .before .before .before .read2 .ensures .1) ∙ c .before .before .before .before .before .if4 .left)
 
 same-length-3 : tie.Need-same-length-3
 same-length-3 c = search needs
 
 returns-5 : tie.Need-returns-5
-returns-5 c = (λ z. absurd (never (sym z ∙ c .before .before .before .before .before .before .before .before .before .if6 .taken)), λ z. c .before .before .before .before .report-by2 .ensures)
+returns-5 c = (λ z. absurd (never (sym z ∙ c .before .before .before .before .before .before .before .before .before .if5 .taken)), λ z. c .before .before .before .before .report-by2 .ensures)
 
 slice-aggregate-rewrite-by-4 : tie.Need-slice-aggregate-rewrite-by-4
 slice-aggregate-rewrite-by-4 c = search needs
@@ -95,61 +95,13 @@ slice-aggregate-rewrite-by-6 : tie.Need-slice-aggregate-rewrite-by-6
 slice-aggregate-rewrite-by-6 c = search needs
 
 rewrite-by-requires-2 : tie.Need-rewrite-by-requires-2
-rewrite-by-requires-2 c κs = (c .before .before .before .before .before .before .before .before .before .before .before .before .before .pre .0, omega (arith, c .before .before .before .before .before .before .before .before .before .before .before .before .before .pre .1), omega arith, omega arith, omega arith, c .before .before .before .before .before .before .before .read2 .ensures .0, sym (c .before .before .before .before .before .before .before .read2 .ensures .1) ∙ c .before .before .before .before .before .if5 .left)
+rewrite-by-requires-2 c κs = (c .before .before .before .before .before .before .before .before .before .before .before .before .pre .0, omega (arith, c .before .before .before .before .before .before .before .before .before .before .before .before .pre .1), omega arith, omega arith, omega arith, c .before .before .before .before .before .before .before .read2 .ensures .0, sym (c .before .before .before .before .before .before .before .read2 .ensures .1) ∙ c .before .before .before .before .before .if4 .left)
 
 same-length-4 : tie.Need-same-length-4
 same-length-4 c = search needs
 
 returns-6 : tie.Need-returns-6
-returns-6 c = (λ z. c .before .before .before .before .rewrite-by2 .ensures, λ z. absurd (never (sym (c .before .before .before .before .before .before .before .before .before .if6 .left) ∙ z)))
-
-slice-aggregate-read-3 : tie.Need-slice-aggregate-read-3
-slice-aggregate-read-3 c = search needs
-
-read-requires-3 : tie.Need-read-requires-3
-read-requires-3 c κs = (c .before .before .before .before .before .pre .0, omega (arith, c .before .before .before .before .before .pre .1))
-
-cast-result-3 : tie.Need-cast-result-3
-cast-result-3 c = search needs
-
-returns-7 : tie.Need-returns-7
-returns-7 c = (λ z. rewriting-refused (c .before .before .before .before .before .before .before .before .args .bytes .now) (c .before .before .before .before .before .before .before .before .args .out .now) (c .before .before .read3 .result) (c .before .before .before .before .before .before .before .before .pre .0) (c .before .before .read3 .ensures .1) (c .if7 .taken), λ z. report-refused (c .before .before .before .before .before .before .before .before .args .bytes .now) (c .before .before .before .before .before .before .before .before .args .out .now) (c .before .before .read3 .result) (c .before .before .before .before .before .before .before .before .pre .0) (c .before .before .read3 .ensures .1) (c .if7 .taken))
-
-slice-aggregate-report-by-7 : tie.Need-slice-aggregate-report-by-7
-slice-aggregate-report-by-7 c = search needs
-
-slice-aggregate-report-by-8 : tie.Need-slice-aggregate-report-by-8
-slice-aggregate-report-by-8 c = search needs
-
-slice-aggregate-report-by-9 : tie.Need-slice-aggregate-report-by-9
-slice-aggregate-report-by-9 c = search needs
-
-report-by-requires-3 : tie.Need-report-by-requires-3
-report-by-requires-3 c κs = (c .before .before .before .before .before .before .before .before .before .before .before .before .before .pre .0, omega (arith, c .before .before .before .before .before .before .before .before .before .before .before .before .before .pre .1), omega arith, omega arith, omega arith, c .before .before .before .before .before .before .before .read3 .ensures .0, sym (c .before .before .before .before .before .before .before .read3 .ensures .1) ∙ c .before .before .before .before .before .if7 .left)
-
-same-length-5 : tie.Need-same-length-5
-same-length-5 c = search needs
-
-returns-8 : tie.Need-returns-8
-returns-8 c = (λ z. absurd (never (sym z ∙ c .before .before .before .before .before .before .before .before .before .if8 .taken)), λ z. c .before .before .before .before .report-by3 .ensures)
-
-slice-aggregate-rewrite-by-7 : tie.Need-slice-aggregate-rewrite-by-7
-slice-aggregate-rewrite-by-7 c = search needs
-
-slice-aggregate-rewrite-by-8 : tie.Need-slice-aggregate-rewrite-by-8
-slice-aggregate-rewrite-by-8 c = search needs
-
-slice-aggregate-rewrite-by-9 : tie.Need-slice-aggregate-rewrite-by-9
-slice-aggregate-rewrite-by-9 c = search needs
-
-rewrite-by-requires-3 : tie.Need-rewrite-by-requires-3
-rewrite-by-requires-3 c κs = (c .before .before .before .before .before .before .before .before .before .before .before .before .before .pre .0, omega (arith, c .before .before .before .before .before .before .before .before .before .before .before .before .before .pre .1), omega arith, omega arith, omega arith, c .before .before .before .before .before .before .before .read3 .ensures .0, sym (c .before .before .before .before .before .before .before .read3 .ensures .1) ∙ c .before .before .before .before .before .if7 .left)
-
-same-length-6 : tie.Need-same-length-6
-same-length-6 c = search needs
-
-returns-9 : tie.Need-returns-9
-returns-9 c = (λ z. c .before .before .before .before .rewrite-by3 .ensures, λ z. absurd (never (sym (c .before .before .before .before .before .before .before .before .before .if8 .left) ∙ z)))
+returns-6 c = (λ z. c .before .before .before .before .rewrite-by2 .ensures, λ z. absurd (never (sym (c .before .before .before .before .before .before .before .before .before .if5 .left) ∙ z)))
 
 pub long-call-spec : {M : Type 1} → statement M
 long-call-spec =
@@ -186,20 +138,4 @@ long-call-spec =
     slice-aggregate-rewrite-by-6
     rewrite-by-requires-2
     same-length-4
-    returns-6
-    slice-aggregate-read-3
-    read-requires-3
-    cast-result-3
-    returns-7
-    slice-aggregate-report-by-7
-    slice-aggregate-report-by-8
-    slice-aggregate-report-by-9
-    report-by-requires-3
-    same-length-5
-    returns-8
-    slice-aggregate-rewrite-by-7
-    slice-aggregate-rewrite-by-8
-    slice-aggregate-rewrite-by-9
-    rewrite-by-requires-3
-    same-length-6
-    returns-9)
+    returns-6)
