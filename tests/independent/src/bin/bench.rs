@@ -19,13 +19,15 @@ fn main() {
             Ok(n) if (16..=MOST_WORDS).contains(&n) => all_shapes(n),
             _ => usage(),
         },
+        (Some("refused"), None) => all_refused(),
         _ => usage(),
     }
 }
 
 fn usage() {
     eprintln!(
-        "bench               the table\nbench shapes [N]    every shape of classes in one another, at N words, 16 to {MOST_WORDS} (the most if not said)"
+        "bench               the table\nbench shapes [N]    every shape of classes in one another, at N words, 16 to {MOST_WORDS} (the most if not said)\n\
+         bench refused       modules of many lengths with a word at fault, early or late"
     );
     std::process::exit(2);
 }
@@ -344,4 +346,35 @@ fn all_shapes(n: usize) {
     for m in all {
         println!("{:>7.2} {:>12.0} {:>8.1}  {}", m.ours / m.rust, m.ours, m.ours / n as f64, m.shape.name());
     }
+}
+
+/// Scripts and lists of empty blocks with one word of no kind, early or late: what a refusal takes.
+fn all_refused() {
+    let mut all = Vec::new();
+    for n in [1, 2, 4, 8, 16, 32, 64, 65, 128, 129, 256, 512, 513, 1024, 1025, 4096] {
+        let good = if n < 16 { blocks(n) } else { typical(n) };
+        for at in (0..10).chain((12..n).step_by(n / 8 + 1)).chain([n - 1]).filter(|at| *at < n) {
+            let mut m = good.clone();
+            m[at] = word(63, 0);
+            assert!(matches!(judge_words(&m), Verdict::Refused(2)), "not refused with 2");
+            let name = format!("{n} words, the fault at {at}");
+            let [ours, rust, _] = measured(&Input { name: name.clone(), modules: vec![bytes_of(&m)], call: Call::Rewrite }, 20);
+            all.push((ours, rust, name));
+        }
+    }
+    all.sort_by(|a, b| (b.0 / b.1).total_cmp(&(a.0 / a.1)));
+    let slower = all.iter().filter(|m| m.0 > m.1).count();
+    println!("{slower} of {} refused modules take more time than the plain Rust", all.len());
+    println!("proved : Rust; proved, ns; Rust, ns");
+    for (ours, rust, name) in all {
+        println!("{:>7.2} {:>12.0} {:>8.0}  {name}", ours / rust, ours, rust);
+    }
+}
+
+/// A module of n words whose statements are empty blocks.
+fn blocks(n: usize) -> Vec<u32> {
+    let mut m = vec![word(1, n.saturating_sub(2) as u32), word(40, 6)];
+    m.resize(n.max(2), word(3, 0));
+    m.truncate(n);
+    m
 }
