@@ -5,7 +5,7 @@
 //! isn't given, so that 65 gives modules that are too deep.
 //!
 //! modules deepest: modules whose records nest down to depth 64, one for each way to go down and for each two ways in turn, and one that takes the
-//! most stack of those that are known.
+//! most stack of those that are known; each of them short, and with a thousand statements more.
 use gingerpost::word;
 use std::env;
 use std::fmt::Write;
@@ -388,14 +388,21 @@ fn deepest(one: usize, other: usize) -> String {
     front.join(" ")
 }
 
+/// Prints a module of one statement, and the same with more statements behind it: a call has other arrays, and another frame, for a longer module.
+fn longer_too(module: &str) {
+    println!("{module}");
+    let statements = module.strip_prefix("1:1 ").expect("one statement");
+    println!("1:1001 {statements}{}", " 3:0".repeat(1000));
+}
+
 fn main() {
     if env::args().nth(1).as_deref() == Some("deepest") {
         for one in 0..WAYS.len() {
             for other in 0..WAYS.len() {
-                println!("{}", deepest(one, other));
+                longer_too(&deepest(one, other));
             }
         }
-        println!("1:1 40:1 {}2:0 16:1 9:0", "4:0 26:3 28:0 27:0 29:1 30:4 28:0 34:1 36:0 39:1 ".repeat(12));
+        longer_too(&format!("1:1 40:1 {}2:0 16:1 9:0", "4:0 26:3 28:0 27:0 29:1 30:4 28:0 34:1 36:0 39:1 ".repeat(12)));
         return;
     }
     let given: Vec<u64> = env::args().skip(1).map_while(|a| a.parse().ok()).collect();
