@@ -3,6 +3,7 @@
 
 use independent::generator::Random;
 use independent::{MOST_DEPTH, MOST_WORDS, Verdict, bytes_of, judge, judge_words, packed, parsed, report_bytes, rewrite_bytes, word};
+use std::collections::BTreeSet;
 use std::hint::black_box;
 use std::time::Duration;
 
@@ -353,7 +354,8 @@ fn all_refused() {
     let mut all = Vec::new();
     for n in [1, 2, 4, 8, 16, 32, 64, 65, 128, 129, 256, 512, 513, 1024, 1025, 4096] {
         let good = if n < 16 { blocks(n) } else { typical(n) };
-        for at in (0..10).chain((12..n).step_by(n / 8 + 1)).chain([n - 1]).filter(|at| *at < n) {
+        let places: BTreeSet<usize> = (0..10).chain((12..n).step_by(n / 8 + 1)).chain([n - 1]).filter(|at| *at < n).collect();
+        for at in places {
             let mut m = good.clone();
             m[at] = word(63, 0);
             assert!(matches!(judge_words(&m), Verdict::Refused(2)), "not refused with 2");
