@@ -1,7 +1,7 @@
 /* Gingerpost: rewrites the decorated classes of a module. The C interface.
  *
  * A module is a list of 32-bit words, docs/FORMAT.md says which. Here every word is four bytes, lowest first, on any machine; a buffer needs no
- * alignment. Link with target/staticlib/libhost.a, which `rt staticlib host` writes for x86-64 Linux.
+ * alignment. Link with target/staticlib/libhost.a, which `tools/build archive` writes for x86-64 Linux.
  *
  *     uint8_t out[3 * sizeof module];
  *     uint64_t answer = gingerpost_rewrite(module, sizeof module, out, sizeof out);

@@ -1,4 +1,4 @@
-//! Says where the archive of `rt staticlib host` is: in the folder that GINGERPOST_LIB names, else in target/staticlib of this repository.
+//! Says where the archive of `tools/build archive` is: in the folder that GINGERPOST_LIB names, else in target/staticlib of this repository.
 use std::env;
 use std::path::PathBuf;
 

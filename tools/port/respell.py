@@ -4,7 +4,7 @@ right behind the kit's port.py: python3 tools/port/respell.py [--names]
 
 A name that specs/ or proofs/*.antt declares and that has a capital behind a small letter or a dash becomes plain snake case; one that begins with a
 capital keeps its dash. Where a lemma would get the name of a definition, the lemma's name ends in _lem. The names of src/ stay. Cycles of calls get
-short names. It writes .antt and .rt files (there `ghost use` lines, clauses and backticks in comments), must-fail edits, and names in backticks in the
+short names. What a library names keeps its spelling in the files that import it. It writes .antt and .rt files (there `ghost use` lines, clauses and backticks in comments), must-fail edits, and names in backticks in the
 .md files. --names prints each old name with its new one, and writes nothing.
 """
 import collections
@@ -15,6 +15,7 @@ import sys
 TOKEN = re.compile(r"[^\s(){}.;,@\"«»`]+")
 DECLARED = re.compile(r"(?m)^( *)(?:(?:pub|abbrev|unfoldable|data|record) )*([^\s(){}.;,@\"«»:]+)(?: \{[^{}\n]*\}| \([^()\n]*\))* :(?= |$)")
 OPERATOR = re.compile(r"[◌≡≢∷∙×⊎]")
+IMPORTED = re.compile(r"use ([\w.'+-]+)\.\{([^}]*)\}")
 CYCLES = {"alias_search": "mentions", "counter": "total", "report_walk": "report", "transform": "transform"}
 
 
@@ -63,6 +64,13 @@ def names():
     return turned, fields, set(declared)
 
 
+def of_libraries(text):
+    """The names that the file imports from a library: they keep its spelling."""
+    own = set(os.listdir("crates"))
+    lists = [names for path, names in IMPORTED.findall(text) if not (path.startswith("Rattle.") and path.split(".")[1] in own)]
+    return {n.split(" as ")[0].strip() for names in lists for n in names.split(",")}
+
+
 def turned_text(text, turned, fields, leave=()):
     def one(m):
         word = m[0]
@@ -99,7 +107,7 @@ def main():
         old = read(path)
         crate = path.split("/")[1] if path.startswith("crates/") else ""
         if path.endswith(".antt"):
-            leave = {m[2] for m in DECLARED.finditer(old)} if is_own_proof(path) else ()
+            leave = of_libraries(old) | ({m[2] for m in DECLARED.finditer(old)} if is_own_proof(path) else set())
             new = turned_text(old, turned, fields, leave)
         elif path.endswith(".rt"):
             new = cycles(turned_source(old, turned, fields), crate)

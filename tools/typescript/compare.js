@@ -38,7 +38,7 @@ function rewrite(words, job) {
 function ask(input, job) {
   const r = spawnSync(rewriter[0], [...rewriter.slice(1), ...job], { input, encoding: 'utf8' });
   if (r.error) {
-    console.error(`the program can't be run: ${r.error.message}; 'rt check gingerpost' builds it`);
+    console.error(`the program can't be run: ${r.error.message}; 'tools/build program' builds it`);
     process.exit(2);
   }
   if (r.status !== 0) throw new Error(`${rewriter.join(' ')}: ${r.stderr}`);

@@ -3,7 +3,7 @@
 use Rattle.std.specs.Prelude.{◌≡◌, ◌&&◌, ◌||◌, cond}
 use Rattle.std.proofs.Math.Path.{refl, ap, sym}
 use Rattle.std.proofs.Common.{◌∙◌, arith}
-use Rattle.std.proofs.Math.Bool.{Bool, true, false, or-true, or_false, or_assoc, or_comm}
+use Rattle.std.proofs.Math.Bool.{Bool, true, false, or-true, or-false, or_assoc, or_comm}
 use Rattle.std.proofs.Math.Option.{Option, none, some}
 use Prim.Native.Nat.{ℕ, zero, suc, ◌<◌}
 use Rattle.std.proofs.Math.Dec.{eqb}
@@ -107,7 +107,7 @@ module _ (c : ℕ) where
           (is_ref c l || shows c (cond b gone (cond (is 29 l) gone whole)) k || shows c (cond b (until 29 gone) (cond (is 29 l) whole (until 29 gone))) r || any_f (is_ref c) (cond b k end))
           ≡ (is_ref c l || shows c (cond b whole (cond (is 29 l) gone whole)) k || shows c (cond b (until 29 gone) (cond (is 29 l) whole (until 29 gone))) r)
       go true = rw (seek_gone (word c) all k, shows_whole c k) (swap (is_ref c l) (shows c (until 29 gone) r) (any_f (is_ref c) k))
-      go false = or_false _
+      go false = or-false _
 
   -- the id word takes another symbol
   unfoldable pub Takes : Option ℕ → Trees → Type 0
@@ -129,7 +129,7 @@ module _ (c : ℕ) where
 
   call_block_any : (b : Bool) (calls : Trees) → (any_f (is_ref c) (call_block b calls) || any_f (is_ref c) (queued b calls)) ≡ any_f (is_ref c) calls
   unfolding call_block queued
-  call_block_any true calls = rw (made_any c 33 (count_f calls) calls refl refl) (unfold any_f in or_false _)
+  call_block_any true calls = rw (made_any c 33 (count_f calls) calls refl refl) (unfold any_f in or-false _)
   call_block_any false calls = unfold any_f in refl
 
   -- what the 27 of a default symbol adds
@@ -163,7 +163,7 @@ module _ (c : ℕ) where
       any_f (is_ref c) (undecorated_if b rk d l m ck calls) ≡ (any_f (is_ref c) ck || any_f (is_ref c) calls)
   unfolding undecorated_if
   undecorated_any true rk d l m ck calls z e f h =
-      tree_any c l (tree m ck) ∙ rw (e, tree_any c m ck, ref_kind c 26 m f refl refl, empty_end calls z, end_any c) (sym (or_false (any_f (is_ref c) ck)))
+      tree_any c l (tree m ck) ∙ rw (e, tree_any c m ck, ref_kind c 26 m f refl refl, empty_end calls z, end_any c) (sym (or-false (any_f (is_ref c) ck)))
   undecorated_any false rk d l m ck calls z e f h =
       let priv : Bool = has_private_in rk in
       let none : has_body ck ≡ false → any_f (is_ref c) (call_block priv calls) ≡ false = λ n. rw (h n) (no_block priv) in
@@ -267,7 +267,7 @@ module _ (c : ℕ) where
         ≡ (shows c (lead gone (until 29 gone)) ck || (any_f (is_ref c) (bare_first els) || any_f (is_ref c) calls))
     private_any =
         rw (any_f_append (is_ref c) (decorated_statement true l y.outer (let_alias y.alias static) (class_of true)), statement_any true l y.outer (let_alias y.alias static) (class_of true) el (let_alias_any y.alias static ea), class_of_any true)
-        (unfold queued call_block in rw (made_any c 33 (count_f calls) calls refl refl, end_any c) (or_false _))
+        (unfold queued call_block in rw (made_any c 33 (count_f calls) calls refl refl, end_any c) (or-false _))
 
     public_any : any_f (is_ref c) (append_f (decorated_statement false l y.outer (let_alias y.alias static) (class_of false))
         (queued false (append_f calls (append_f (assignment y.outer y.alias (append_f (decorators ck) (first_constructor els))) (export l.payload y.outer)))))
@@ -414,4 +414,4 @@ module _ (c : ℕ) where
     unfolding y els
     public_other p n =
         public_class p
-        ∙ rw (← (shows_moved c els), renamed_same (id_of rk) s.default s.next (elements_of ck) o.low n (elements of_field), outer_is (id_of rk) s.default s.next (elements_of ck) o.low o.other, n, or_false)
+        ∙ rw (← (shows_moved c els), renamed_same (id_of rk) s.default s.next (elements_of ck) o.low n (elements of_field), outer_is (id_of rk) s.default s.next (elements_of ck) o.low o.other, n, or-false)

@@ -2,7 +2,7 @@
 use Rattle.std.proofs.Math.Path.{◌≡◌, refl, ap, sym}
 use Rattle.std.proofs.Common.{◌∙◌}
 use Rattle.std.specs.Prelude.{Bool, ◌&&◌, ◌||◌, cond, ℕ, ◌<◌}
-use Rattle.std.proofs.Math.Bool.{true, false, or_false}
+use Rattle.std.proofs.Math.Bool.{true, false, or-false}
 use native.Mathlib.Omega.{arith}
 use Rattle.std.proofs.Math.Dec.{eqb}
 use Rattle.words.specs.Word.{bit0}
@@ -24,7 +24,7 @@ module _ (c : ℕ) where
   unfolding name_of name_if take_f
   key_any b end s h = refl
   key_any true (node l k r) s h = unfold tree in refl
-  key_any false (node l k r) s h = unfold tree any_f is_ref is ◌∶◌ in rw (fresh_other c s.next h, or_false)
+  key_any false (node l k r) s h = unfold tree any_f is_ref is ◌∶◌ in rw (fresh_other c s.next h, or-false)
 
   with_key_any : (key g : Trees) → any_f (is_ref c) key ≡ any_f (is_ref c) (take_f 1 (drop_f 1 g)) → any_f (is_ref c) (with_key key g) ≡ any_f (is_ref c) g
   unfolding with_key
@@ -74,7 +74,7 @@ module _ (c : ℕ) where
 
   nine : (i : ℕ) → any_f (is_ref c) (tree (9 ∶ i) end) ≡ eqb i c
   unfolding any_f
-  nine i = tree_any c (9 ∶ i) end ∙ rw (ref_9 c i, or_false)
+  nine i = tree_any c (9 ∶ i) end ∙ rw (ref_9 c i, or-false)
 
   prefix_any : (i : ℕ) (b : Bool) → any_f (is_ref c) (prefix i b) ≡ eqb i c
   unfolding prefix
@@ -87,7 +87,7 @@ module _ (c : ℕ) where
   call_any entries pre name d e g =
       made_any c 2 0 _ refl refl ∙ made_any c 22 4 _ refl refl
       ∙ rw (any_f_append (is_ref c) (tree (16 ∶ count_f entries) entries), made_any c 16 (count_f entries) entries refl refl, any_f_append (is_ref c) pre, any_f_append (is_ref c) name, g, tree_any c d end, e)
-      (unfold any_f in ap (any_f (is_ref c) entries ||◌) (or_false (any_f (is_ref c) pre)))
+      (unfold any_f in ap (any_f (is_ref c) entries ||◌) (or-false (any_f (is_ref c) pre)))
 
   -- ---- rule 2: the member as it stays, and what it queues
 

@@ -2,7 +2,7 @@
 use Rattle.std.proofs.Math.Path.{◌≡◌, refl, sym}
 use Rattle.std.proofs.Common.{◌∙◌, arith}
 use Rattle.std.specs.Prelude.{Bool, ◌&&◌, ◌||◌, cond, ℕ, suc}
-use Rattle.std.proofs.Math.Bool.{true, false, or_false}
+use Rattle.std.proofs.Math.Bool.{true, false, or-false}
 use Rattle.records.specs.Forest.{end, node, append_f}
 use Rattle.records.specs.Label.{Label, Trees, is}
 use Rattle.rewriting.specs.Parts.{is_empty, kids_of, Role, module', list, statement, expression, method, constructor, plain, field, role_of, decorators, parameters_of, indexed, of_parameters}
@@ -61,7 +61,7 @@ module _ (c : ℕ) where
 
   pub other_word : (l : Label) (k : Trees) → is 4 l ≡ false → mentions_word c l k ≡ is_ref c l
   unfolding mentions_word
-  other_word l k e = rw (e, or_false)
+  other_word l k e = rw (e, or-false)
 
   -- ---- no decorators, nothing lost
 

@@ -2,10 +2,10 @@
 use Rattle.std.proofs.Math.Path.{◌≡◌, refl, ap, sym, subst}
 use Rattle.std.proofs.Common.{◌∙◌}
 use Rattle.std.specs.Prelude.{Bool, ◌&&◌, ◌||◌, cond, ℕ}
-use Rattle.std.proofs.Math.Bool.{true, false, not, or-true, or_false, or_assoc, and_false, and-true, and-or_distrib_left}
+use Rattle.std.proofs.Math.Bool.{true, false, not, or-true, or-false, or_assoc, and-false, and-true, and-or_distrib_left}
 use Rattle.std.proofs.Math.Option.{Option, none, some}
 use native.Mathlib.Omega.{arith}
-use borrow.Author.Tests.{not_false}
+use borrow.Author.Tests.{not-false}
 use Rattle.words.specs.Table.{lookup}
 use Rattle.words.specs.Word.{bit1}
 use Rattle.records.specs.Forest.{end, node, append_f, count_f, any_f, append_f_end, any_f_append}
@@ -76,7 +76,7 @@ module _ (c : ℕ) where
         rw (here_any c true around l k bare entries d a h.older, h.no_word, calls_any c around l k bare entries d a h.older h.no_descriptor h.silent h.key)
         (sym (or_assoc (any_f (is_ref c) bare) (any_f (is_ref c) entries) (is_symbol c around.id))
         ∙ rw (h.split, h.moved, and-true (is_symbol c around.id)))
-    member_both false e = rw (member_here false, no_call, h.undecorated e, and_false (is_symbol c around.id))
+    member_both false e = rw (member_here false, no_call, h.undecorated e, and-false (is_symbol c around.id))
 
     -- the call alone, where c is the class's id
     member_call_lem : (b : Bool) → is_symbol c around.id ≡ true → any_f (is_ref c) (member_if b around l k bare entries d a).calls ≡ b
@@ -101,7 +101,7 @@ module _ (c : ℕ) where
 
   no_entries : (l : Label) (k : Trees) → is_member l ≡ true → is_decorated_member l k ≡ false → is_empty (decorators_of (role_of l) k) ≡ true
   unfolding is_decorated_member
-  no_entries l k e q = not_false (is_empty (decorators_of (role_of l) k)) (sym (rw e) ∙ q)
+  no_entries l k e q = not-false (is_empty (decorators_of (role_of l) k)) (sym (rw e) ∙ q)
 
   method_bare : (around : Around) (l : Label) (k : Trees) (s : State) → Here k → role_of l ≡ method → is_member l ≡ true → Standing l k → Formed k → Older c s →
       Bare around l k of_method (bare_method (visit around k s).here) (decorators_of method (visit around k s).here) (13 ∶ 0) (visit around k s)
@@ -399,7 +399,7 @@ module _ (c : ℕ) where
       let inner-around : Around = inside statement around k in
       ap (any_f (is_ref c)) (visit_dead around l k s e d)
       ∙ tree_any c l (visit inner-around k t).here
-      ∙ rw (← (shows_whole c (visit inner-around k t).here), hk whole f (fit_whole k) inner-around t (entering_older c statement s o), e, d, ref_kind c 4 l i refl refl, and_false (is 4 l))
+      ∙ rw (← (shows_whole c (visit inner-around k t).here), hk whole f (fit_whole k) inner-around t (entering_older c statement s o), e, d, ref_kind c 4 l i refl refl, and-false (is 4 l))
     where
       visit_dead : (around : Around) (l : Label) (k : Trees) (s : State) → role_of l ≡ statement → is_live k ≡ false → (visit_one around l k s).here ≡ tree l (visit (inside statement around k) k (entering statement s)).here
       visit_dead around l k s e d = unfold visit_one work since own in rw (e, d) (unfold class_if dead_class in refl)
@@ -423,7 +423,7 @@ module _ (c : ℕ) where
         (kept_all (mentions_by c (lead whole (until 29 gone)) rk) (mentions_by c (each whole) (elements_of rk)) named (any_row is_decorated_member (elements_of rk))))
       where
         kept_all : (o e n a : Bool) → (o || (e || (n && a))) ≡ ((n && (a || false)) || (o || e))
-        kept_all o e n a = rw (or_false a) (simp ors)
+        kept_all o e n a = rw (or-false a) (simp ors)
     live_any true true true p n =
         let calls_are : any_f (is_ref c) calls ≡ any_row is_decorated_member (elements_of rk) =
         rw (shows_gone (elements_of ck), mentions_gone c (elements_of rk), n) at (queue gone n) in
@@ -435,12 +435,12 @@ module _ (c : ℕ) where
         lost o a = simp ors
     live_any true true false p n =
         private_other c rk l m ck calls s outside el em o hid none p n
-        ∙ rw (outer gone fit_gone, queue (elements of_method) fit_method, n) (ap (mentions_by c (lead gone (until 29 gone)) rk ||◌) (or_false (mentions_by c (elements of_method) (elements_of rk))))
+        ∙ rw (outer gone fit_gone, queue (elements of_method) fit_method, n) (ap (mentions_by c (lead gone (until 29 gone)) rk ||◌) (or-false (mentions_by c (elements of_method) (elements_of rk))))
     live_any true false true p n =
         public_named c rk l m ck calls s outside el em o hid none p n ∙ sym (rw (or-true (any_row is_decorated_member (elements_of rk))))
     live_any true false false p n =
         public_other c rk l m ck calls s outside el em o hid none p n
-        ∙ rw (outer whole fit_whole, queue (elements of_field) fit_field, n) (ap (mentions_by c (lead whole (until 29 gone)) rk ||◌) (or_false (mentions_by c (elements of_field) (elements_of rk))))
+        ∙ rw (outer whole fit_whole, queue (elements of_field) fit_field, n) (ap (mentions_by c (lead whole (until 29 gone)) rk ||◌) (or-false (mentions_by c (elements of_field) (elements_of rk))))
 
   -- the one child of a class statement
   module _ (m : Label) (rk : Trees) (em : is 26 m ≡ true) where
@@ -462,11 +462,11 @@ module _ (c : ℕ) where
 
     class_shows : (x : Mode) (ck : Trees) → shows c (each x) (node m ck end) ≡ shows c x ck
     unfolding searched within behind
-    class_shows x ck = shows_node c (each x) m ck end ∙ rw (m_word, shows_end c (each x), or_false)
+    class_shows x ck = shows_node c (each x) m ck end ∙ rw (m_word, shows_end c (each x), or-false)
 
     class_mentions : (x : Mode) → mentions_by c (each x) (node m rk end) ≡ mentions_by c x rk
     unfolding searched within behind
-    class_mentions x = mentions_node c (each x) m rk end ∙ rw (other_word c m rk (is_other 26 4 m em refl), m_word, mentions_end c (each x), or_false)
+    class_mentions x = mentions_node c (each x) m rk end ∙ rw (other_word c m rk (is_other 26 4 m em refl), m_word, mentions_end c (each x), or-false)
 
   visit_live : (around : Around) (l : Label) (k : Trees) (s : State) → role_of l ≡ statement → is_live k ≡ true → (a : Result) → visit (inside statement around k) k (entering statement s) ≡ a →
       (visit_one around l k s).here ≡ (live_class (class_kids k) l a.here a.calls a.after s.default).here
@@ -592,7 +592,7 @@ module _ (c : ℕ) where
 
   queue_end : Queue end
   unfolding Queue any_row
-  queue_end b p j h m around live bm s o = rw (visit_end around s, shows_end c b, end_any c, mentions_end c b, and_false (is_symbol c around.id))
+  queue_end b p j h m around live bm s o = rw (visit_end around s, shows_end c b, end_any c, mentions_end c b, and-false (is_symbol c around.id))
 
   claims : (f : Trees) → Claims f
   claims end = record { here = here_end; queue = queue_end; body = unfold elements_of kids_of in queue_end; class = unfold elements_of kids_of class_kids in queue_end }

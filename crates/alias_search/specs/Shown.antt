@@ -2,7 +2,7 @@
 use Rattle.std.proofs.Math.Path.{◌≡◌, refl, ap, sym}
 use Rattle.std.proofs.Common.{◌∙◌, arith}
 use Rattle.std.specs.Prelude.{Bool, ◌&&◌, ◌||◌, ℕ, suc}
-use Rattle.std.proofs.Math.Bool.{true, false, cond, or_assoc, or_comm, or_false, and_false}
+use Rattle.std.proofs.Math.Bool.{true, false, cond, or_assoc, or_comm, or-false, and-false}
 use Rattle.std.proofs.Math.Dec.{eqb}
 use borrow.Author.Tests.{eqb-true}
 use Rattle.words.specs.Word.{bit1}
@@ -52,7 +52,7 @@ module _ (c : ℕ) where
 
   pub tree_any : (l : Label) (k : Trees) → any_f (is_ref c) (tree l k) ≡ (is_ref c l || any_f (is_ref c) k)
   unfolding tree any_f
-  tree_any l k = or_false _
+  tree_any l k = or-false _
 
   -- a made record of another kind adds nothing
   pub made_any : (k p : ℕ) (f : Trees) → eqb k 9 ≡ false → eqb k 18 ≡ false → any_f (is_ref c) (tree (k ∶ p) f) ≡ any_f (is_ref c) f
@@ -87,12 +87,12 @@ module _ (c : ℕ) where
           let e : is_ref c l ≡ false = ref_kind 28 l h refl refl in
           let e' : is_ref c (repay l 0) ≡ false = ref_kind 28 (repay l 0) (is_repay 28 l 0 ∙ h) refl refl in
           rw (e, e') (or_comm (any_f (is_ref c) r) (any_f (is_ref c) k))
-      go false h = or_false _
+      go false h = or-false _
 
   indexed_any : (i : ℕ) (f : Trees) → any_f (is_ref c) (indexed i f) ≡ any_f (is_ref c) f
   unfolding indexed any_f tree is_ref is ◌∶◌
   indexed_any i end = refl
-  indexed_any i (node l k r) = rw (indexed_any i r, or_false)
+  indexed_any i (node l k r) = rw (indexed_any i r, or-false)
 
   parameters_any : (i : ℕ) (g : Trees) → (any_f (is_ref c) (bare_parameters g) || any_f (is_ref c) (of_parameters i g)) ≡ any_f (is_ref c) g
   unfolding bare_parameters of_parameters any_f
@@ -253,7 +253,7 @@ module _ (c : ℕ) where
       let l' : is_ref c l ≡ false = or_left (is_ref c l) (any_f (is_ref c) k) first in
       let k' : any_f (is_ref c) k ≡ false = or_right (is_ref c l) (any_f (is_ref c) k) first in
       let r' : any_f (is_ref c) r ≡ false = or_right (is_ref c l || any_f (is_ref c) k) (any_f (is_ref c) r) e in
-      rw (l', and_false (searched x), shows_none (within all x l k) k k', shows_none (behind x l) r r')
+      rw (l', and-false (searched x), shows_none (within all x l k) k k', shows_none (behind x l) r r')
 
 -- a label in the place of another: of the same kind, and alike to the search
 pub record Alike (c : ℕ) (m l : Label) : Type 0 where
@@ -317,11 +317,11 @@ module _ (c d b : ℕ) where
   unfolding is_ref
   ref_other l h e =
       let p : l.payload ≡ d = eqb-true l.payload d (and_right (is 9 l || is 18 l) _ h) in
-      ap (λ (n : ℕ). (is 9 l || is 18 l) && eqb n c) p ∙ rw e (and_false (is 9 l || is 18 l))
+      ap (λ (n : ℕ). (is 9 l || is 18 l) && eqb n c) p ∙ rw e (and-false (is 9 l || is 18 l))
 
   pub ref_repaid : (l : Label) → eqb b c ≡ false → is_ref c (repay l b) ≡ false
   unfolding is_ref repay
-  ref_repaid l e = rw e (and_false (is 9 (repay l b) || is 18 (repay l b)))
+  ref_repaid l e = rw e (and-false (is 9 (repay l b) || is 18 (repay l b)))
 
   ref_not_30 : (l : Label) → is_ref d l ≡ true → is 30 l ≡ false
   unfolding is_ref

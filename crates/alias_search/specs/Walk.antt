@@ -2,7 +2,7 @@
 use Rattle.std.specs.Prelude.{◌≡◌, Bool, ◌&&◌, ◌||◌, not, cond, List, eqb, ltb, length}
 use Rattle.std.proofs.Math.Path.{refl, ap, sym}
 use Rattle.std.proofs.Common.{◌∙◌, arith}
-use Rattle.std.proofs.Math.Bool.{true, false, or_false, or_assoc}
+use Rattle.std.proofs.Math.Bool.{true, false, or-false, or_assoc}
 use Rattle.std.proofs.Math.Option.{Option, none, some}
 use Prim.Native.Nat.{ℕ, zero, suc, ◌+◌, ◌-◌, ◌<◌, ◌≤◌}
 use borrow.Author.Tests.{eq-eqb, ne_eqb, eqb-true, ltb-true, ltb-false}
@@ -370,11 +370,11 @@ module _ (c : ℕ) (rk : Trees) where
 module _ (c : ℕ) (l : Label) (k : Trees) where
   pub word_9 : l.kind ≡ 9 → mentions_word c l k ≡ eqb l.payload c
   unfolding mentions_word is_ref
-  word_9 h = rw (is_yes c l k 9 h, is_not c l k 4 (λ e. omega arith), or_false)
+  word_9 h = rw (is_yes c l k 9 h, is_not c l k 4 (λ e. omega arith), or-false)
 
   pub word_18 : l.kind ≡ 18 → mentions_word c l k ≡ eqb l.payload c
   unfolding mentions_word is_ref
-  word_18 h = rw (is_yes c l k 18 h, is_not c l k 9 (λ e. omega arith), is_not c l k 4 (λ e. omega arith), or_false)
+  word_18 h = rw (is_yes c l k 18 h, is_not c l k 9 (λ e. omega arith), is_not c l k 4 (λ e. omega arith), or-false)
 
   pub word_4 : l.kind ≡ 4 → mentions_word c l k ≡ (is_live k && names c (class_kids k))
   unfolding mentions_word is_ref
@@ -403,7 +403,7 @@ module _ (c : ℕ) (ws : List ℕ) (at : ℕ) (h : (label_at ws at).kind ≡ 4) 
   statement_live e g =
       let row : kids_at ws at ≡ node (label_at ws (at + 1)) (kids_at ws (at + 1)) end = class_row ws at h ∙ record_one ws (at + 1) g in
       rw (inner_live c (label_at ws at) (kids_at ws at) h (ap is_live (class_row ws at h) ∙ e), class_kids_lem ws at h, row)
-      (mentions_node c (each (of_class c (kids_at ws (at + 1)))) (label_at ws (at + 1)) (kids_at ws (at + 1)) end ∙ rw (mentions_end c (each (of_class c (kids_at ws (at + 1))))) (or_false _))
+      (mentions_node c (each (of_class c (kids_at ws (at + 1)))) (label_at ws (at + 1)) (kids_at ws (at + 1)) end ∙ rw (mentions_end c (each (of_class c (kids_at ws (at + 1))))) (or-false _))
 
   pub statement_named : is_live (take_f 1 (records_at ws (at + 1))) ≡ true → mentions_word c (label_at ws (at + 1)) (kids_at ws (at + 1)) ≡ true →
       mentions_by c (inner c (label_at ws at) (kids_at ws at)) (kids_at ws at) ≡ true

@@ -1,4 +1,6 @@
 // Rule 6's search, by the words as read: does 9:C or 18:C stand in what some records become? No state, no alias and no output is needed for it.
+#![tactic(auto)]
+
 ghost use Rattle.std.specs.Prelude.{◌≡◌, cond, ◌&&◌, ◌<◌, ◌≤◌, length};
 ghost use Rattle.records.specs.Forest.{take_f};
 ghost use Rattle.records.specs.Ends.{Ends};

@@ -1,10 +1,14 @@
 // Lines of cases that standard input lists: the words of a module as kind:payload, the numbers in front of them, what is written of each case, and
 // the count of cases. (..)*N stands for its words N times over. A number without a kind is no word.
+#![tactic(auto)]
+
 ghost use Rattle.std.specs.Prelude.{◌≤◌, length};
+
+use std::io;
 
 // What has been read of a line: the number being read, the kind in front of it, what it ends (0 nothing, 1 a word, 2 how often to repeat), where the
 // last group and the last item begin, and where the next word goes.
-#[derive(Drop)]
+#[derive(Clone, Copy)]
 struct Reading {
     value: u32,
     kind: u32,
@@ -15,14 +19,14 @@ struct Reading {
 }
 
 // A number of a line, and where to read on.
-#[derive(Drop)]
+#[derive(Clone, Copy)]
 pub struct Number {
     pub value: u32,
     pub next: usize,
 }
 
 // The cases that were run, and those that came out wrong.
-#[derive(Drop)]
+#[derive(Clone, Copy)]
 pub struct Tally {
     pub cases: u64,
     pub wrong: u64,
@@ -256,15 +260,12 @@ pub fn counted(t: Tally, right: bool) -> Tally {
 }
 
 // Writes the bytes and ends the line.
-pub fn write_line(bytes: &[u8]) {
-    io::write_all(1, bytes);
-    io::write_all(1, b"\n");
+pub fn write_line(rt: &impl Print, bytes: &[u8]) -> io::Result<()> {
+    rt.write_all(bytes)?;
+    rt.write_all(b"\n")
 }
 
 // Writes the last line: how many cases, how many wrong.
-pub fn write_tally(t: Tally) {
-    io::print_decimal(1, t.cases);
-    io::write_all(1, b" cases, ");
-    io::print_decimal(1, t.wrong);
-    io::write_all(1, b" wrong\n");
+pub fn write_tally(rt: &impl Print, t: Tally) -> io::Result<()> {
+    println!(rt; "{} cases, {} wrong", t.cases, t.wrong)
 }

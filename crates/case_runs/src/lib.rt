@@ -1,14 +1,17 @@
 // Runs cases of the public calls, one to a line: the number of words lent for the output, the three numbers that must be answered, the words of a
 // module as kind:payload, behind '=>' the words that must be written and, behind '#', what the case shows. Every lent word is compared: one that
 // must not be written has to keep the mark that it had. A line that begins with '#' is a heading.
+#![tactic(auto)]
+
 use case_lines::Tally;
 use rewriter::Answer;
+use std::io;
 
 // A word that no module has.
 const MARK: u32 = 4294967295;
 
 // What a line says in front of its words: the number of words lent, and the numbers that must be answered.
-#[derive(Drop)]
+#[derive(Clone, Copy)]
 struct Head {
     room: usize,
     code: u32,
@@ -142,49 +145,51 @@ fn run_case(
 }
 
 // Writes how a case came out, and counts it.
-fn judged(t: Tally, right: bool) -> Tally {
+fn judged(rt: &impl Print, t: Tally, right: bool) -> io::Result<Tally> {
     if right {
-        io::write_all(1, b"ok    ");
+        print!(rt; "ok    ")?;
     } else {
-        io::write_all(1, b"WRONG ");
+        print!(rt; "WRONG ")?;
     }
-    case_lines::counted(t, right)
+    Ok(case_lines::counted(t, right))
 }
 
 // One line: a case up to its mark, and behind it what the case shows.
 fn run_line(
+    rt: &impl Print,
     ws: &mut [u32],
     expected: &mut [u32],
     out: &mut [u32],
     line: &[u8],
     t: Tally,
     report: bool,
-) -> Tally {
+) -> io::Result<Tally> {
     let title = case_lines::find(line, 0, b'#');
     if title == 0 {
-        case_lines::write_line(line);
-        return t;
+        case_lines::write_line(rt, line)?;
+        return Ok(t);
     }
     let right = run_case(ws, expected, out, &line[..title], report);
-    let u = judged(t, right);
-    case_lines::write_line(&line[title..]);
-    u
+    let u = judged(rt, t, right)?;
+    case_lines::write_line(rt, &line[title..])?;
+    Ok(u)
 }
 
 // The cases of the text's lines: of the symbol report, or of the rewriter.
 pub fn run(
+    rt: &impl Print,
     ws: &mut [u32],
     expected: &mut [u32],
     out: &mut [u32],
     text: &[u8],
     report: bool,
-) -> Tally {
+) -> io::Result<Tally> {
     let mut t = Tally { cases: 0, wrong: 0 };
     let mut i = 0;
     while i < text.len() {
         let e = case_lines::find(text, i, b'\n');
-        t = run_line(ws, expected, out, &text[i..e], t, report);
+        t = run_line(rt, ws, expected, out, &text[i..e], t, report)?;
         i = e + 1;
     }
-    t
+    Ok(t)
 }

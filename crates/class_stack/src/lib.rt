@@ -1,4 +1,6 @@
 // The class stack: the symbol and the alias of each class around that has an alias, the innermost last. Passed by value.
+#![tactic(auto)]
+
 ghost use Rattle.std.specs.Prelude.{◌≡◌, [], ◌∷◌, ◌+◌, ◌<◌};
 ghost use Rattle.records.specs.Label.{word_at, ◌∶◌};
 ghost use Rattle.class_stack.specs.Renaming.{Ready, capacity, subs, swapped, rename_p, rename_l};
@@ -6,7 +8,7 @@ ghost use Rattle.class_stack.specs.Renaming.{Ready, capacity, subs, swapped, ren
 // How many classes deep.
 pub const CAPACITY: usize = 16;
 
-#[derive(Drop)]
+#[derive(Clone, Copy)]
 pub struct ClassStack {
     pub symbols: [u32; CAPACITY],
     pub aliases: [u32; CAPACITY],

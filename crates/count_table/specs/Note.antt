@@ -2,7 +2,7 @@
 use Rattle.std.specs.Prelude.{◌≡◌, Bool, ◌&&◌, ◌⊎◌, List, ℕ, ◌+◌, ◌-◌, ◌*◌, ◌/◌, ◌%◌, ◌<◌, ◌≤◌, length, get_or, set}
 use Rattle.std.proofs.Math.Path.{refl, ap, sym}
 use Rattle.std.proofs.Common.{subst, ◌∙◌, true≢false, inl, inr, arith, length-set, get_or-set_same, get_or-set_other}
-use Rattle.std.proofs.Math.Bool.{true, false, or_false}
+use Rattle.std.proofs.Math.Bool.{true, false, or-false}
 use Rattle.std.proofs.Math.Option.{Option, none, some}
 use Rattle.std.proofs.Math.Dec.{eqb}
 use borrow.Author.Tests.{eqb-true, eqb-false, eq-eqb, ne_eqb}
@@ -70,7 +70,7 @@ nearer o c n (inr z) l = inr (omega arith)
 
 followed : (o n : ℕ) → Near o n → has_default (default_from o n 67108864) ≡ has_default o
 unfolding Follows
-followed o n m = follows false o n 67108864 m (has_none 67108864 refl) ∙ or_false (has_default o)
+followed o n m = follows false o n 67108864 m (has_none 67108864 refl) ∙ or-false (has_default o)
 
 expression_one : (ws : List ℕ) (at : ℕ) → (label_at ws at).kind ≡ 20 → arity_at ws at ≡ 1
 unfolding arity_at arity children child_table lookup

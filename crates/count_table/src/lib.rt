@@ -1,4 +1,6 @@
 // How many fresh symbols each record of an accepted module takes and whether it may change: the notes of its places, filled from the last one to the first.
+#![tactic(auto)]
+
 ghost use Rattle.std.specs.Prelude.{◌≡◌, true, false, ◌+◌, ◌*◌, ◌/◌, ◌%◌, ◌<◌, ◌≤◌, length, get_or};
 ghost use Rattle.records.specs.Place.{label_at};
 ghost use Rattle.counter.specs.Contract.{mark_in, Planned, Ready, Noted, Annotated, Totals};

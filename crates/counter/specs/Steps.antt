@@ -12,7 +12,7 @@ use Rattle.records.specs.Label.{Label, Trees, arity}
 use Rattle.records.specs.Place.{records_at, label_at, arity_at, kids_at, end_of, end_none, end_past, end_add, end_one, end_low, end_high}
 use Rattle.rewriting.specs.Parts.{tree, elements_of, id_of, is_decorated, is_decorated_member, has_plain_key, is_live, class_kids}
 use Rattle.rewriting.specs.Visit.{Around, State, Result, class_symbol, visit, visit_one}
-use Rattle.rewriting.specs.Facts.{Within, counter}
+use Rattle.rewriting.proofs.Facts.{Within, counter}
 use Rattle.inspect.specs.Child.{opt_of, opt_is, opt_no, opt_some, opt_none}
 use Rattle.walk_laws.specs.Rows.{visit_at, fresh, row_none, row_past, after_add, one_after, kids_visit, plain_here}
 use Rattle.walk_laws.specs.After.{key_after, member_after, mentioned, class_after, after_expression, after_dead, after_live}

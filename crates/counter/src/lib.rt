@@ -1,5 +1,7 @@
 // The next fresh symbol and the default symbol of the class around, behind some records (rules 1 and 4 to 6). Reads the words and their notes, writes
 // nothing; walks no further down than to the elements of a class, since the notes say the rest.
+#![tactic(auto)]
+
 ghost use Rattle.std.specs.Prelude.{◌≡◌, true, false, ◌||◌, ◌+◌, ◌/◌, ◌%◌, ◌<◌, ◌≤◌, length, get_or};
 ghost use Rattle.records.specs.Ends.{Ends};
 ghost use Rattle.records.specs.Place.{label_at, kids_at};
@@ -13,21 +15,21 @@ ghost use Rattle.counter.specs.Contract.{state_of, mark_in, is_walked, unlive, P
 use inspect::NONE;
 
 // The class directly around: is it live, and the symbol of its id.
-#[derive(Drop)]
+#[derive(Clone, Copy)]
 pub struct Scope {
     pub live: bool,
     pub id: u32,
 }
 
 // The next fresh symbol, and the default symbol of the class around.
-#[derive(Drop)]
+#[derive(Clone, Copy)]
 pub struct Count {
     pub next: u32,
     pub default: u32,
 }
 
 // The state behind some records, and where they end.
-#[derive(Drop)]
+#[derive(Clone, Copy)]
 pub struct Counted {
     pub at: usize,
     pub next: u32,
@@ -36,7 +38,7 @@ pub struct Counted {
 
 // How far some records lead: where they end, how many fresh symbols they take, and which of these, counted from 0, becomes the default symbol of the
 // class around; NONE if none does.
-#[derive(Drop)]
+#[derive(Clone, Copy)]
 pub struct Total {
     pub at: usize,
     pub count: u32,

@@ -4,7 +4,7 @@ use Rattle.std.proofs.Common.{ap, ◌∙◌, arith}
 use Rattle.output.specs.Overlay.{Wrote, length_overlay}
 use Rattle.line_writer.specs.Decimal.{answer_text, length_answer}
 use Rattle.rewriting.specs.Answer.{Answer, rewrite_answer, report_answer}
-use Rattle.rewriting.specs.Room.{written_le}
+use Rattle.rewriting.proofs.Room.{written_le}
 use Rattle.rewriter.specs.declared.Answer.{Answer as Returned}
 use Rattle.rewriter.specs.Numbers.{numbers_of}
 

@@ -2,12 +2,4 @@ pub mod Limits
 pub mod Grammar
 pub mod Scan
 pub mod WellFormed
-pub mod Rows
 pub mod Sets
-pub mod Faults
-pub mod Places
-pub mod Refused
-pub mod Accepted
-pub mod Answers
-pub mod Children
-pub mod Words

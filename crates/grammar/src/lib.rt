@@ -1,4 +1,6 @@
 // The grammar's leaves: the limits, the categories of records and, of one word, whether it may stand at a place and which refusal it is.
+#![tactic(auto)]
+
 ghost use Rattle.std.specs.Prelude.{◌≡◌, ◌+◌, ◌-◌};
 ghost use Rattle.grammar.specs.Limits.{max_depth};
 ghost use Rattle.words.specs.Word.{kind_of, payload_of};

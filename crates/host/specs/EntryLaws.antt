@@ -11,14 +11,14 @@ use Rattle.std.proofs.Math.ListN.{length, take}
 use Rattle.std.proofs.Math.Seq.{take-append_seam}
 use Rattle.output.specs.Overlay.{overlay}
 use Rattle.grammar.specs.Scan.{refusal}
-use Rattle.grammar.specs.Refused.{refusal_le, refused_1}
-use Rattle.grammar.specs.Accepted.{accepted as well_formed}
+use Rattle.grammar.proofs.Refused.{refusal_le, refused_1}
+use Rattle.grammar.proofs.Accepted.{accepted as well_formed}
 use Rattle.rewriting.specs.Parts.{any_record, is_refused7}
 use Rattle.rewriting.specs.Visit.{module_of}
 use Rattle.rewriting.specs.Answer.{Answer, accepted, refused, turned_back, module_words, report_words, answer_of, lent_after, rewrite_answer, rewrite_lent, report_answer, Reordered, ReportLent}
-use Rattle.rewriting.specs.Room.{faults_first, not_turned_back, seven_before_eight, untouched, one_each, by_case, written_le, room_cut}
-use Rattle.rewriting.specs.Length.{module_length}
-use Rattle.rewriting.specs.Report.{report_length}
+use Rattle.rewriting.proofs.Room.{faults_first, not_turned_back, seven_before_eight, untouched, one_each, by_case, written_le, room_cut}
+use Rattle.rewriting.proofs.Length.{module_length}
+use Rattle.rewriting.proofs.Report.{report_length}
 use Rattle.rewriting.specs.DemandWords.{DemandWords}
 use Rattle.rewriter.specs.Result.{take_written}
 use Rattle.host.specs.Bytes.{words_of_bytes, bytes_of_words, Small}

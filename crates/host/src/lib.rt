@@ -1,4 +1,6 @@
 // The C entry: a module's bytes in, the bytes of what it becomes out, one number back. Keeps nothing between calls.
+#![tactic(auto)]
+
 ghost use Rattle.std.specs.Prelude.{◌≡◌, true, false, ◌+◌, ◌*◌, ◌/◌, ◌%◌, ◌≤◌, ltb, length, take};
 ghost use Rattle.output.specs.Overlay.{overlay};
 ghost use Rattle.grammar.specs.Scan.{refusal};

@@ -1,6 +1,8 @@
 // The reader, and what is asked of records as they are read, by flat loops that step by the notes of where records end. Reads the words and the notes,
 // writes nothing. Every function takes every place: past the end of the words stands the word 0, and of the k records at a place there are fewer where
 // the words end.
+#![tactic(auto)]
+
 ghost use Rattle.std.specs.Prelude.{◌≡◌, not, ◌+◌, ◌-◌, ◌<◌, ◌≤◌, length, get_or};
 ghost use Rattle.words.specs.Word.{bit0};
 ghost use Rattle.records.specs.Forest.{end, take_f, any_f};
@@ -51,7 +53,7 @@ pub fn children_at(ws: &[u32], i: usize) -> usize
 
 // The words and the place that is read next: 01's "small reader that keeps the words and its position". Its functions are thin ones over `records::behind`
 // and `word_at`; every other caller takes `word_behind`.
-#[derive(Drop)]
+#[derive(Clone, Copy)]
 pub struct Reader<'a> {
     pub words: &'a [u32],
     pub at: usize,

@@ -1,11 +1,13 @@
 // Words written as lines of kind:payload in decimal, as document 01 writes them. A text is read byte by byte, in pieces of any length; its words go
 // to a lent slice, as many as there is room for. The first bad line ends the reading.
+#![tactic(auto)]
+
 ghost use Rattle.std.specs.Prelude.{◌≡◌, [], ◌∷◌, ◌≤◌, length};
 ghost use Rattle.line_reader.specs.Line.{digit_of, is_blank, from_start, from_blank, from_kind, from_colon, from_payload, from_end, at_end, stepped, is_bad, Fit};
 ghost use Rattle.line_reader.specs.Text.{Stored, word_of_line, next_line, Follows, Ready};
 
 // Why a line is bad.
-#[derive(Drop)]
+#[derive(Clone, Copy)]
 pub enum Fault {
     NoKind,
     NoColon,
@@ -20,7 +22,7 @@ pub enum Fault {
 }
 
 // What has been read of a line.
-#[derive(Drop)]
+#[derive(Clone, Copy)]
 pub enum Stage {
     Start,
     // Nothing but blanks.
@@ -37,7 +39,7 @@ pub enum Stage {
 }
 
 // What has been read of a text: the line being read, its number, and the number of words that were stored.
-#[derive(Drop)]
+#[derive(Clone, Copy)]
 pub struct Reading {
     pub stage: Stage,
     pub line: u64,

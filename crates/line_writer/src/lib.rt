@@ -1,4 +1,6 @@
 // Numbers and words as lines of decimal digits, written to a lent slice of bytes and cut where it ends. Touches nothing else.
+#![tactic(auto)]
+
 ghost use Rattle.std.specs.Prelude.{[], ◌∷◌, ◌+◌, ◌*◌, ◌^◌, ◌<◌, length};
 ghost use Rattle.output.specs.Overlay.{Wrote};
 ghost use Rattle.line_writer.specs.Decimal.{decimal, line_of, lines_of, head_of, answer_text};

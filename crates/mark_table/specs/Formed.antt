@@ -13,8 +13,8 @@ use Rattle.records.specs.Forest.{end, node}
 use Rattle.records.specs.Label.{Label, Trees, is, ◌∶◌}
 use Rattle.grammar.specs.Grammar.{Slot, Run, Row, row, no_row, leaf, expressions, one_expression, statements, table, row_of, slots, slots_below, symbols, class_under, decorators, id, expression, body, Body}
 use Rattle.grammar.specs.WellFormed.{Allowed, Fits}
-use Rattle.grammar.specs.Children.{allowed_sole}
-use Rattle.grammar.specs.Rows.{each, each_row, implied, test_left, test_right, allowed_row, allowed_known, sole_kind}
+use Rattle.grammar.proofs.Children.{allowed_sole}
+use Rattle.grammar.proofs.Rows.{each, each_row, implied, test_left, test_right, allowed_row, allowed_known, sole_kind}
 use Rattle.alias_search.specs.Formed.{Each, is_list, may_hold, OneClass, OneBody, FirstSymbols, Standing, Formed}
 
 -- ---- which kinds stand under which

@@ -3,7 +3,7 @@
 use Rattle.std.specs.Prelude.{◌≡◌, Bool, ◌&&◌, ◌||◌, List, [], ◌∷◌, ◌++◌, ℕ, ◌+◌, ◌-◌, ◌/◌, ◌%◌, ◌<◌, ◌≤◌, ltb, get_or, set, replicate}
 use Rattle.std.proofs.Math.Path.{refl, ap, subst}
 use Rattle.std.proofs.Common.{sym, ◌∙◌, true≢false, arith, length-set, get_or-set_same, get_or-set_other}
-use Rattle.std.proofs.Math.Bool.{true, false, and_false, or_false}
+use Rattle.std.proofs.Math.Bool.{true, false, and-false, or-false}
 use Rattle.std.proofs.Math.Option.{Option, none, some}
 use Rattle.std.proofs.Math.Dec.{eqb}
 use Rattle.std.proofs.Math.ListN.{length}
@@ -16,8 +16,8 @@ use Rattle.records.specs.Ends.{Ends, ends_set}
 use Rattle.records.specs.Place.{records_at, label_at, arity_at, kids_at, end_of, end_low, records_node, records_past}
 use Rattle.grammar.specs.Grammar.{module', symbols, own_statement, element, slots_below, slots, row_of, table, row}
 use Rattle.grammar.specs.WellFormed.{Allowed, Fits}
-use Rattle.grammar.specs.Children.{allowed_sole}
-use Rattle.grammar.specs.Rows.{sole_kind}
+use Rattle.grammar.proofs.Children.{allowed_sole}
+use Rattle.grammar.proofs.Rows.{sole_kind}
 use Rattle.rewriting.specs.Parts.{any_record, elements_of, id_of, is_decorated, is_decorated_member, is_live, is_refused7}
 use Rattle.rewriting.specs.Visit.{Result, is_ref, visit}
 use Rattle.inspect.specs.Row.{any_row}
@@ -121,15 +121,15 @@ module _ (ws : List ℕ) (at : ℕ) where
 
   pub not_live : is_live (take_f 1 (records_at ws (at + 1))) ≡ false → takes_alias ws at ≡ false
   unfolding takes_alias
-  not_live e = rw (e, and_false)
+  not_live e = rw (e, and-false)
 
   pub not_decorated : is_decorated (kids_at ws (at + 1)) ≡ false → takes_alias ws at ≡ false
   unfolding takes_alias
-  not_decorated e = rw (e, and_false)
+  not_decorated e = rw (e, and-false)
 
   pub nameless : id_of (kids_at ws (at + 1)) ≡ none → takes_alias ws at ≡ false
   unfolding takes_alias mentions_id
-  nameless e = rw (e, and_false)
+  nameless e = rw (e, and-false)
 
   pub searched : (label_at ws at).kind ≡ 4 → is_live (take_f 1 (records_at ws (at + 1))) ≡ true → is_decorated (kids_at ws (at + 1)) ≡ true →
       takes_alias ws at ≡ mentions_id (id_of (kids_at ws (at + 1))) (elements_of (kids_at ws (at + 1)))
@@ -157,17 +157,17 @@ module _ (ws : List ℕ) (at : ℕ) where
   pub marked_statement : (label_at ws at).kind ≡ 4 → is_marked ws at ≡ takes_alias ws at
   unfolding is_marked is
   marked_statement e =
-      rw (ne_eqb (label_at ws at).kind 26 (λ g. omega (arith, e, g)), ne_eqb (label_at ws at).kind 29 (λ g. omega (arith, e, g)), none_member 4 e (λ g. omega arith) (λ g. omega arith) (λ g. omega arith), or_false, or_false, or_false)
+      rw (ne_eqb (label_at ws at).kind 26 (λ g. omega (arith, e, g)), ne_eqb (label_at ws at).kind 29 (λ g. omega (arith, e, g)), none_member 4 e (λ g. omega arith) (λ g. omega arith) (λ g. omega arith), or-false, or-false, or-false)
 
   pub marked_class : (label_at ws at).kind ≡ 26 → is_marked ws at ≡ is_decorated (kids_at ws at)
   unfolding is_marked is
   marked_class e =
-      rw (not_statement ws at (λ g. omega (arith, e, g)), eq-eqb (label_at ws at).kind 26 e, ne_eqb (label_at ws at).kind 29 (λ g. omega (arith, e, g)), none_member 26 e (λ g. omega arith) (λ g. omega arith) (λ g. omega arith), or_false, or_false)
+      rw (not_statement ws at (λ g. omega (arith, e, g)), eq-eqb (label_at ws at).kind 26 e, ne_eqb (label_at ws at).kind 29 (λ g. omega (arith, e, g)), none_member 26 e (λ g. omega arith) (λ g. omega arith) (λ g. omega arith), or-false, or-false)
 
   pub marked_body : (label_at ws at).kind ≡ 29 → is_marked ws at ≡ any_row is_decorated_member (kids_at ws at)
   unfolding is_marked is
   marked_body e =
-      rw (not_statement ws at (λ g. omega (arith, e, g)), ne_eqb (label_at ws at).kind 26 (λ g. omega (arith, e, g)), eq-eqb (label_at ws at).kind 29 e, none_member 29 e (λ g. omega arith) (λ g. omega arith) (λ g. omega arith), or_false)
+      rw (not_statement ws at (λ g. omega (arith, e, g)), ne_eqb (label_at ws at).kind 26 (λ g. omega (arith, e, g)), eq-eqb (label_at ws at).kind 29 e, none_member 29 e (λ g. omega arith) (λ g. omega arith) (λ g. omega arith), or-false)
 
   pub marked_member : ((label_at ws at).kind ≡ 4 → ⊥) → ((label_at ws at).kind ≡ 26 → ⊥) → ((label_at ws at).kind ≡ 29 → ⊥) → is_marked ws at ≡ is_decorated_member (label_at ws at) (kids_at ws at)
   unfolding is_marked is
@@ -176,7 +176,7 @@ module _ (ws : List ℕ) (at : ℕ) where
   -- with what a 40 says
   pub marked_other : (x : Bool) → ((label_at ws at).kind ≡ 40 → ⊥) → (is_marked ws at || (is 40 (label_at ws at) && x)) ≡ is_marked ws at
   unfolding is
-  marked_other x n = rw (ne_eqb (label_at ws at).kind 40 n, or_false)
+  marked_other x n = rw (ne_eqb (label_at ws at).kind 40 n, or-false)
 
   pub marked_symbols : (x : Bool) → (label_at ws at).kind ≡ 40 → (is_marked ws at || (is 40 (label_at ws at) && x)) ≡ x
   unfolding is

@@ -1,5 +1,7 @@
 // The notes' marks: which classes take an alias or are decorated (rule 6), which members are decorated (rule 3), whether there are private-in tests
 // (rule 9); a flat loop over the places of an accepted module's words, from the last to the first. And refusal 7, in the same loop.
+#![tactic(auto)]
+
 ghost use Rattle.std.specs.Prelude.{◌≡◌, true, ◌&&◌, ◌||◌, [], ◌∷◌, ◌+◌, ◌/◌, ◌<◌, length};
 ghost use Rattle.words.specs.Word.{kind_of};
 ghost use Rattle.records.specs.Forest.{take_f};

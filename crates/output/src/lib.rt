@@ -1,4 +1,6 @@
 // Words written to a lent slice, cut where it ends: a run on an empty slice measures what a run on a long one writes.
+#![tactic(auto)]
+
 ghost use Rattle.std.specs.Prelude.{[], ◌∷◌, ◌^◌, ◌<◌};
 ghost use Rattle.output.specs.Overlay.{Wrote};
 

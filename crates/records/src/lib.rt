@@ -1,4 +1,6 @@
 // Records in a list of words: where they end. Reads the words; `find_ends` writes the notes of their places.
+#![tactic(auto)]
+
 ghost use Rattle.std.specs.Prelude.{◌≡◌, ◌<◌, ◌≤◌, length};
 ghost use Rattle.records.specs.Place.{end_of};
 ghost use Rattle.records.specs.Ends.{Ends};

@@ -1,4 +1,6 @@
 // The symbol report of some records: one word for each fresh symbol, in order of need. Reads the words, writes the report, reads nothing back from it.
+#![tactic(auto)]
+
 ghost use Rattle.std.specs.Prelude.{◌+◌, ◌<◌, ◌≡◌, true, eqb, length, get_or};
 ghost use Rattle.records.specs.Label.{words};
 ghost use Rattle.records.specs.Ends.{Ends};
@@ -24,7 +26,7 @@ const INNER: u32 = 3;
 const ALIAS: u32 = 4;
 
 // Where the walk stands: in the words read and in the report. The next fresh symbol, and the default symbol of the class around.
-#[derive(Drop)]
+#[derive(Clone, Copy)]
 pub struct Reported {
     pub at: usize,
     pub pos: usize,

@@ -16,12 +16,12 @@ use Rattle.output.specs.Overlay.{overlay, Wrote}
 use Rattle.grammar.specs.Scan.{refusal, symbols_of}
 use Rattle.grammar.specs.WellFormed.{tree_of}
 use Rattle.rewriting.specs.Visit.{Around, State, Result, visit, module_of, visit_words, outermost, rewritten, reported}
-use Rattle.rewriting.specs.Fresh.{fresh_length}
-use Rattle.rewriting.specs.Length.{module_length}
+use Rattle.rewriting.proofs.Fresh.{fresh_length}
+use Rattle.rewriting.proofs.Length.{module_length}
 use Rattle.rewriting.specs.Parts.{any_record, is_refused7}
 use Rattle.rewriting.specs.Answer.{Answer, accepted, refused, turned_back, module_words, report_words, answer_of, lent_after, rewrite_answer, rewrite_lent}
 use Rattle.rewriting.specs.DemandWords.{DemandWords}
-use Rattle.rewriting.specs.DemandAccepted.{demand_words}
+use Rattle.rewriting.proofs.DemandAccepted.{demand_words}
 use Rattle.class_stack.specs.Renaming.{Sub, capacity, Ready as StackReady, entries, subs}
 use Rattle.class_stack.specs.declared.ClassStack.{ClassStack}
 use Rattle.inspect.specs.Child.{opt_none}

@@ -12,7 +12,7 @@ use Rattle.records.specs.Place.{records_at, arity_at, kids_at, records_node, kid
 use Rattle.grammar.specs.Grammar.{module', is_symbol}
 use Rattle.grammar.specs.Scan.{refusal, symbols_of}
 use Rattle.grammar.specs.WellFormed.{tree_of, Fits, Each, Known, WellFormed}
-use Rattle.grammar.specs.Accepted.{accepted}
+use Rattle.grammar.proofs.Accepted.{accepted}
 use Rattle.rewriting.specs.Parts.{symbol_if, id_of}
 use Rattle.rewriting.specs.Visit.{module_of}
 use Rattle.counter.specs.Contract.{Below, Planned, Ready}

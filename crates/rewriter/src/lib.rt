@@ -1,4 +1,6 @@
 // The public call: a module's words rewritten, every refusal in its order. Reads the words, writes the output only once it is known to be long enough.
+#![tactic(auto)]
+
 ghost use Rattle.std.specs.Prelude.{◌≡◌, ◌≤◌, leb, length, take};
 ghost use Rattle.grammar.specs.Scan.{refusal};
 ghost use Rattle.rewriting.specs.Answer.{turned_back, module_words, rewrite_answer, rewrite_lent};
@@ -11,7 +13,7 @@ use counter::{Count, Scope};
 use inspect::NONE;
 
 // The three numbers of an answer: the refusal, or 0; the words written; the fresh symbols.
-#[derive(Drop)]
+#[derive(Clone, Copy)]
 pub struct Answer {
     pub code: u32,
     pub written: usize,

@@ -9,8 +9,8 @@ use Rattle.grammar.specs.Grammar.{is_symbol}
 use Rattle.grammar.specs.Scan.{refusal, symbols_of}
 use Rattle.grammar.specs.WellFormed.{Each, Known}
 use Rattle.rewriting.specs.Answer.{turned_back, module_words, report_words, rewrite_answer, report_answer, count_if, Reordered}
-use Rattle.rewriting.specs.Room.{is_of, one_each, not_turned_back, same_refusal, accepted_fresh}
-use Rattle.rewriting.specs.ReadAgain.{symbols_count, below_forty}
+use Rattle.rewriting.proofs.Room.{is_of, one_each, not_turned_back, same_refusal, accepted_fresh}
+use Rattle.rewriting.proofs.ReadAgain.{symbols_count, below_forty}
 use Rattle.rewriter.specs.Start.{records_tree, each_at, each_first}
 
 -- ---- the symbols of the rewritten module

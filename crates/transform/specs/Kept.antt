@@ -12,8 +12,8 @@ use Rattle.words.specs.Shape.{bit_of}
 use Rattle.records.specs.Label.{Label, Trees, read_at, is, bit}
 use Rattle.records.specs.Place.{records_at, label_at, arity_at, kids_at}
 use Rattle.grammar.specs.Grammar.{Slot, module', class_expression, row, table, row_of, slots, slots_below}
-use Rattle.grammar.specs.Children.{allowed_sole}
-use Rattle.grammar.specs.Rows.{sole_kind}
+use Rattle.grammar.proofs.Children.{allowed_sole}
+use Rattle.grammar.proofs.Rows.{sole_kind}
 use Rattle.grammar.specs.WellFormed.{Fits}
 use Rattle.rewriting.specs.Parts.{plain, constructor, role_of, tree, is_member, is_constructor, is_decorated_member}
 use Rattle.rewriting.specs.Visit.{Around, State, visit, visit_one, work, since, own, kept, inside, entering}

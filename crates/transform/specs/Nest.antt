@@ -12,8 +12,8 @@ use Rattle.records.specs.Forest.{end, node, take_f, drop_f, append_f, height_f, 
 use Rattle.records.specs.Label.{Label, Trees, is}
 use Rattle.grammar.specs.Grammar.{Slot, Run, Row, row, no_row, leaf, expressions, one_expression, statements, table, row_of, slots, slots_below, module'}
 use Rattle.grammar.specs.WellFormed.{Allowed, Fits}
-use Rattle.grammar.specs.Rows.{each, each_row}
-use Rattle.rewriting.specs.Fitting.{category_of}
+use Rattle.grammar.proofs.Rows.{each, each_row}
+use Rattle.rewriting.proofs.Fitting.{category_of}
 use Rattle.records.specs.Place.{records_at, label_at, arity_at, kids_at, end_of, end_drop, record_one}
 
 unfoldable pub nest_of : Bool → ℕ → ℕ

@@ -15,7 +15,7 @@ use Rattle.grammar.specs.Grammar.{element, module'}
 use Rattle.grammar.specs.WellFormed.{Allowed, Fits}
 use Rattle.rewriting.specs.Parts.{Role, module' as module_role, list, statement, expression, method, constructor, plain, field, role_of, decorators, decorators_of, bare_method, bare_field, is_decorated_member, has_plain_key, elements_of, id_of, has_private_in, has_static, is_decorated, is_live}
 use Rattle.rewriting.specs.Visit.{Around, State, Result, Taken, class_symbol, name_if, name_of, called₁, called₂, member_if, member, kept, dead_class, own, since, work, inside, entering, join, ◌then◌, visit, visit_one}
-use Rattle.rewriting.specs.Facts.{counter}
+use Rattle.rewriting.proofs.Facts.{counter}
 use Rattle.inspect.specs.Row.{Test, count_row, count_none}
 use Rattle.inspect.specs.Child.{opt_of, opt_is, opt_no, opt_some, opt_none, kids_row}
 use Rattle.inspect.specs.Class.{count_called}

@@ -7,7 +7,7 @@ use Rattle.records.specs.Label.{Trees}
 use Rattle.records.specs.Place.{records_at, label_at, arity_at, kids_at, end_of, end_none, end_past, end_add, end_low, end_high}
 use Rattle.output.specs.Overlay.{Wrote, wrote_none, wrote_then}
 use Rattle.rewriting.specs.Visit.{State, Result, visit, visit_one}
-use Rattle.rewriting.specs.Facts.{counter}
+use Rattle.rewriting.proofs.Facts.{counter}
 use Rattle.class_stack.specs.declared.ClassStack.{ClassStack}
 use Rattle.walk_laws.specs.Rows.{visit_at, row_none, row_past, here_add, calls_add, after_add, one_here, one_calls, one_after, kids_visit}
 use Rattle.walk_laws.specs.Written.{written, written_append, length_written}

@@ -14,7 +14,7 @@ use Rattle.records.specs.Label.{Trees}
 use Rattle.records.specs.Place.{records_at, label_at, arity_at, kids_at, end_of, end_none, end_add, end_low, end_high}
 use Rattle.output.specs.Overlay.{Wrote, wrote_none, wrote_then, wrote_front}
 use Rattle.grammar.specs.Grammar.{module', row_of, table, row, holds}
-use Rattle.grammar.specs.Rows.{allowed_row}
+use Rattle.grammar.proofs.Rows.{allowed_row}
 use Rattle.grammar.specs.WellFormed.{Fits}
 use Rattle.rewriting.specs.Parts.{is_empty, of_parameters, is_constructor, is_decorated_member, is_live, has_private_in, has_constructor, first_constructor, bare_first, is_decorated}
 use Rattle.rewriting.specs.Visit.{State}

@@ -14,8 +14,8 @@ use Rattle.records.specs.Label.{Label, Trees, read_at, repay, is, bit, arity}
 use Rattle.records.specs.Place.{records_at, label_at, arity_at, kids_at, end_of, end_one, end_none, end_high}
 use Rattle.output.specs.Overlay.{Wrote, wrote_then, wrote_front}
 use Rattle.grammar.specs.Grammar.{Slot, row, table, row_of, slots, slots_below, module', symbols, own_statement}
-use Rattle.grammar.specs.Children.{allowed_sole}
-use Rattle.grammar.specs.Rows.{sole_kind}
+use Rattle.grammar.proofs.Children.{allowed_sole}
+use Rattle.grammar.proofs.Rows.{sole_kind}
 use Rattle.grammar.specs.WellFormed.{Fits}
 use Rattle.rewriting.specs.Parts.{module' as module_role, list, expression, constructor, plain, role_of, tree, recount, is_member, is_constructor, is_live, class_kids, id_of}
 use Rattle.rewriting.specs.Visit.{Around, State, Result, visit, visit_one, work, since, own, kept, dead_class, whole_module, inside, entering}

@@ -1,4 +1,6 @@
 // Writes what the records of a module become (rules 1 to 10). Reads the words, writes the output, reads nothing back from it.
+#![tactic(auto)]
+
 ghost use Rattle.std.specs.Prelude.{◌≡◌, true, false, not, cond, ◌⊎◌, [], ◌∷◌, ℕ, ◌+◌, ◌-◌, ◌<◌, ◌≤◌, eqb, length, get_or, replicate};
 ghost use Rattle.std.proofs.Math.Option.{none};
 ghost use Rattle.words.specs.Word.{bit0};
@@ -31,7 +33,7 @@ use counter::{Count, Scope};
 use inspect::NONE;
 
 // Where the walk stands: in the words read and the words written; the state; how many records were written.
-#[derive(Drop)]
+#[derive(Clone, Copy)]
 pub struct Went {
     pub at: usize,
     pub pos: usize,
@@ -1096,7 +1098,7 @@ fn indexed(
 // ---- classes (rules 6 to 10)
 
 // What a live class is to have.
-#[derive(Drop)]
+#[derive(Clone, Copy)]
 pub struct ClassPlan {
     // the symbol of its id as read
     pub id: u32,
@@ -1552,7 +1554,7 @@ fn elements(
 }
 
 // What a queue has: how many statements, and where they end.
-#[derive(Drop)]
+#[derive(Clone, Copy)]
 pub struct Queued {
     pub pos: usize,
     pub count: u32,

@@ -18,8 +18,8 @@ use Rattle.words.specs.Word.{kind_of, payload_of, children}
 use Rattle.grammar.specs.Limits.{max_depth}
 use Rattle.grammar.specs.Grammar.{slot, Run, Row, row, no_row, leaf, expressions, one_expression, statements, table, row_of, expression, Statement, module'}
 use Rattle.grammar.specs.Scan.{Place, place, places, below, below_at, fault_at, judge}
-use Rattle.grammar.specs.Rows.{each, each_row, implied, test_left, test_right, allowed_known, total, total_below}
-use Rattle.grammar.specs.Faults.{Faultless, fault_0, fault_le}
+use Rattle.grammar.proofs.Rows.{each, each_row, implied, test_left, test_right, allowed_known, total, total_below}
+use Rattle.grammar.proofs.Faults.{Faultless, fault_0, fault_le}
 use Rattle.validation.specs.declared.Step.{Step}
 use Rattle.validation.specs.declared.Run as Declared
 use Rattle.validation.specs.Walked.{ahead, Good, after, Walked, Scanned, Rest, Here, leaves, plain, Apart, run, Fields, Entry, waiting, Room, Stacked}

@@ -9,8 +9,8 @@ use borrow.Author.Tests.{eq-eqb, ne_eqb, lt-ltb}
 use Rattle.grammar.specs.Limits.{max_words}
 use Rattle.grammar.specs.Grammar.{module'}
 use Rattle.grammar.specs.Scan.{place, top, judge, symbols_of, refusal}
-use Rattle.grammar.specs.Places.{refusal_scan}
-use Rattle.grammar.specs.Refused.{refusal_le}
+use Rattle.grammar.proofs.Places.{refusal_scan}
+use Rattle.grammar.proofs.Refused.{refusal_le}
 use Rattle.validation.specs.declared.Step.{Step}
 use Rattle.validation.specs.Walked.{after, Walked}
 

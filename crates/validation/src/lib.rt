@@ -1,4 +1,6 @@
 // Validation: refusals 1 to 6 of a module's words. Reads the words, writes nothing.
+#![tactic(auto)]
+
 ghost use Rattle.std.specs.Prelude.{◌≡◌, [], ◌∷◌, ◌++◌, length, ◌+◌, ◌-◌, ◌*◌, ◌/◌, ◌%◌, ◌<◌, ◌≤◌};
 ghost use Rattle.words.specs.Word.{kind_of, payload_of};
 ghost use Rattle.grammar.specs.Limits.{max_depth};
@@ -7,7 +9,7 @@ ghost use Rattle.grammar.specs.Scan.{place, places, symbols_of, refusal};
 ghost use Rattle.validation.specs.Verdict.{number_of};
 ghost use Rattle.validation.specs.Walked.{Walked, Scanned, Apart, Fields, Entry, Room, run, Good, ahead, waiting, Stacked};
 
-#[derive(Drop)]
+#[derive(Clone, Copy)]
 pub enum Verdict {
     Accepted,
     // No words, or too many.
@@ -21,7 +23,7 @@ pub enum Verdict {
 }
 
 // A walk's answer: the refusal that it met, or 0 and the place behind what it walked.
-#[derive(Drop)]
+#[derive(Clone, Copy)]
 pub struct Step {
     pub fault: u32,
     pub next: usize,
@@ -29,7 +31,7 @@ pub struct Step {
 
 // A run of places that wait for records: so many of one category, context and depth, above the stack's entries below `top`. `left` is the number of
 // levels that are left, the places' own counted: it falls from a record to its children.
-#[derive(Drop)]
+#[derive(Clone, Copy)]
 pub struct Run {
     pub category: u8,
     pub context: u32,

@@ -2,7 +2,7 @@
 use Rattle.std.specs.Prelude.{◌≡◌, Bool, true, false, ◌&&◌, ◌||◌, not, cond, List, [], ◌∷◌, ℕ, ◌<◌, eqb, T, length}
 use Rattle.std.proofs.Math.Path.{refl, ap, sym}
 use Rattle.std.proofs.Common.{◌∙◌, eqb-true, ne_eqb}
-use Rattle.std.proofs.Math.Bool.{and_false}
+use Rattle.std.proofs.Math.Bool.{and-false}
 use Rattle.std.proofs.lemmas.Bool.{false≢true}
 use Rattle.std.proofs.Math.Option.{Option}
 use Rattle.words.specs.Table.{lookup}
@@ -11,7 +11,7 @@ use Rattle.records.specs.Label.{Label, Trees}
 use Rattle.records.specs.Place.{records_at, label_at, kids_at}
 use Rattle.grammar.specs.Grammar.{Slot, Element, Row, row, no_row, leaf, expressions, one_expression, statements, table, row_of, slots_below, module' as moduleSlot}
 use Rattle.grammar.specs.WellFormed.{Allowed, Fits}
-use Rattle.grammar.specs.Rows.{each, each_row, implied, allowed_row, allowed_known}
+use Rattle.grammar.proofs.Rows.{each, each_row, implied, allowed_row, allowed_known}
 use Rattle.rewriting.specs.Parts.{Role, module', list, statement, expression, method, constructor, plain, field, role_of, is_decorated_member}
 use Rattle.rewriting.specs.Visit.{Around, State, Result, member_if, member, own, since, work, inside, entering, join, ◌then◌, visit, visit_one, visit_node}
 use Rattle.walk_laws.specs.Rows.{visit_at, one_after}
@@ -35,11 +35,11 @@ own_same list a b l kids outside x n = refl
 own_same statement a b l kids outside x n = refl
 own_same expression a b l kids outside x n = refl
 own_same method a b l kids outside x n =
-    member_if_same _ _ a b l kids _ _ _ x (ap (a.live &&◌) n ∙ and_false a.live) (ap (b.live &&◌) n ∙ and_false b.live)
+    member_if_same _ _ a b l kids _ _ _ x (ap (a.live &&◌) n ∙ and-false a.live) (ap (b.live &&◌) n ∙ and-false b.live)
 own_same constructor a b l kids outside x n = refl
 own_same plain a b l kids outside x n = refl
 own_same (field d) a b l kids outside x n =
-    member_if_same _ _ a b l kids _ _ _ x (ap (a.live &&◌) n ∙ and_false a.live) (ap (b.live &&◌) n ∙ and_false b.live)
+    member_if_same _ _ a b l kids _ _ _ x (ap (a.live &&◌) n ∙ and-false a.live) (ap (b.live &&◌) n ∙ and-false b.live)
 
 pub one_same : (a b : Around) (l : Label) (k : Trees) (s : State) → is_decorated_member l k ≡ false → ((x y : Around) (t : State) → visit x k t ≡ visit y k t) → visit_one a l k s ≡ visit_one b l k s
 unfolding visit_one work

@@ -2,7 +2,7 @@
 use Rattle.std.specs.Prelude.{◌≡◌, Bool, true, ◌&&◌, cond, List, [], ◌∷◌, ◌++◌, length, replicate}
 use Rattle.std.proofs.Math.Path.{refl, ap, sym}
 use Rattle.std.proofs.Common.{subst, ◌∙◌, arith, eqb-true}
-use Rattle.std.proofs.Math.Bool.{false, and_false}
+use Rattle.std.proofs.Math.Bool.{false, and-false}
 use Prim.Native.Nat.{ℕ, zero, suc, ◌+◌, ◌-◌, ◌<◌}
 use Rattle.words.specs.Word.{children}
 use Rattle.records.specs.Forest.{end, node, append_f, count_f}
@@ -158,7 +158,7 @@ module _ (ws : List ℕ) (whole : Fits (module' ∷ []) (records_at ws 0)) (at :
         since (role_of (label_at ws at)) (label_at ws at) (member_if false around (label_at ws at) (kids_at ws at) (bare_by (label_at ws at) (visit around (kids_at ws at) s).here) (decorators_of (role_of (label_at ws at)) (visit around (kids_at ws at) s).here) (descriptor_by (label_at ws at)) (visit around (kids_at ws at) s)) (visit around (kids_at ws at) s)
     unfolding member
     not_called =
-        let b : (around.live && is_decorated_member (label_at ws at) (kids_at ws at)) ≡ false = rw (bare, and_false around.live) in
+        let b : (around.live && is_decorated_member (label_at ws at) (kids_at ws at)) ≡ false = rw (bare, and-false around.live) in
         member_one around (label_at ws at) (kids_at ws at) s m ∙ rw b
 
     pub undecorated_here : (visit_one around (label_at ws at) (kids_at ws at) s).here ≡ tree (label_at ws at) (visit around (kids_at ws at) s).here

@@ -15,7 +15,7 @@ use Rattle.records.specs.Label.{Label, Trees, ◌∶◌, repay, is, bit}
 use Rattle.records.specs.Place.{records_at, label_at, arity_at, kids_at, end_of}
 use Rattle.grammar.specs.Grammar.{Element, module', element, expression, table, row, row_of}
 use Rattle.grammar.specs.WellFormed.{Allowed, Fits}
-use Rattle.grammar.specs.Rows.{allowed_row}
+use Rattle.grammar.proofs.Rows.{allowed_row}
 use Rattle.rewriting.specs.Parts.{role_of, tree, indexed, of_parameters, decorators, parameters_of, decorators_of, is_member, is_decorated_member, is_plain_key, has_plain_key}
 use Rattle.rewriting.specs.Visit.{Around, State, Result, Taken, class_symbol, plain_name, name_if, name_of, prefix, array, member_call, called₁, called₂, member_if, member, since, visit, visit_one}
 use Rattle.walk_laws.specs.Rows.{visit_at, calls_add, one_calls, one_after, plain_here}

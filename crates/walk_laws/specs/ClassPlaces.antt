@@ -14,8 +14,8 @@ use Rattle.records.specs.Label.{Label, Trees, arity}
 use Rattle.records.specs.Place.{records_at, label_at, arity_at, kids_at, end_of, end_none, end_low, end_add, end_one, end_drop, record_one}
 use Rattle.grammar.specs.Grammar.{Slot, slot, Expression, Decorators, module', expression, id, body, row, table, row_of, slots, slots_below}
 use Rattle.grammar.specs.WellFormed.{Allowed, Fits}
-use Rattle.grammar.specs.Children.{allowed_sole}
-use Rattle.grammar.specs.Rows.{sole_kind}
+use Rattle.grammar.proofs.Children.{allowed_sole}
+use Rattle.grammar.proofs.Rows.{sole_kind}
 use Rattle.rewriting.specs.Parts.{tree, decorators, elements_of}
 use Rattle.rewriting.specs.Visit.{Around, State, Result, visit}
 use Rattle.walk_laws.specs.Rows.{visit_at, here_add, calls_add, kids_visit, plain_here, plain_calls}

@@ -2,7 +2,7 @@
 use Rattle.std.specs.Prelude.{◌≡◌, ◌&&◌, not, eqb, length}
 use Rattle.std.proofs.Math.Path.{refl, ap, sym}
 use Rattle.std.proofs.Common.{◌∙◌, arith}
-use Rattle.std.proofs.Math.Bool.{Bool, true, false, cond, and-true, and_false}
+use Rattle.std.proofs.Math.Bool.{Bool, true, false, cond, and-true, and-false}
 use Rattle.std.proofs.Math.Option.{Option, none, some}
 use mathlib.Core.List.{List, [], ◌∷◌, ◌++◌, append_assoc, append-nil}
 use Prim.Native.Nat.{ℕ, ◌+◌, ◌-◌, ◌<◌}
@@ -210,7 +210,7 @@ module _ (ws : List ℕ) (at n : ℕ) (f : ClassFacts ws at n) (e : is_decorated
     module _ (q : is_empty (queue ws at n) ≡ true) where
       silent_block : block ws at n ≡ false
       unfolding block
-      silent_block = rw (e, q) (and_false (has_private_in (rk ws at)))
+      silent_block = rw (e, q) (and-false (has_private_in (rk ws at)))
 
       silent_plan : (plan ws at n).inner ≡ id_symbol (id_label ws at n)
       silent_plan = named_plan.0 ∙ ap (either (id_symbol (id_label ws at n))) (f.default q) ∙ either_none (id_symbol (id_label ws at n))

@@ -11,8 +11,8 @@ use Rattle.records.specs.Label.{Label, Trees, arity, repay, is}
 use Rattle.records.specs.Place.{records_at, label_at, arity_at, kids_at, end_of, end_add, end_one, records_first}
 use Rattle.grammar.specs.Grammar.{Slot, slot, Decorators, Parameters, Parameter, module', method_decorators, parameter_decorators, key, method_parameters, code, expression, element, parameter_of, table, row, row_of, slots, slots_below, expressions}
 use Rattle.grammar.specs.WellFormed.{Allowed, Fits}
-use Rattle.grammar.specs.Children.{allowed_sole}
-use Rattle.grammar.specs.Rows.{sole_kind, allowed_row}
+use Rattle.grammar.proofs.Children.{allowed_sole}
+use Rattle.grammar.proofs.Rows.{sole_kind, allowed_row}
 use Rattle.rewriting.specs.Parts.{tree, is_empty, kids_of, change_kids, decorators, undecorate, parameters_of, bare_parameters, bare_method, is_member, is_plain_key, first_is_plain, has_plain_key}
 use Rattle.rewriting.specs.Visit.{Around, State, Result, visit}
 use Rattle.walk_laws.specs.Rows.{visit_at, here_add, after_add, kids_visit, plain_here, plain_after}

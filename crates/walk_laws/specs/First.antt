@@ -10,7 +10,7 @@ use Rattle.records.specs.Label.{Label, Trees, repay, is, bit}
 use Rattle.records.specs.Place.{records_at, label_at, arity_at, kids_at, end_of}
 use Rattle.grammar.specs.Grammar.{Element, element, Row, row, no_row, table, row_of}
 use Rattle.grammar.specs.WellFormed.{Allowed, Fits}
-use Rattle.grammar.specs.Rows.{each, each_row, implied, allowed_row}
+use Rattle.grammar.proofs.Rows.{each, each_row, implied, allowed_row}
 use Rattle.rewriting.specs.Parts.{method, constructor, role_of, tree, recount, of_parameters, parameters_of, bare_method, is_constructor, has_constructor, first_constructor, bare_first}
 use Rattle.rewriting.specs.Visit.{Around, State, Result, kept, own, since, work, inside, entering, join, ◌then◌, visit, visit_one, visit_node}
 use Rattle.walk_laws.specs.Rows.{visit_at, one_here, here_add, kids_visit}

@@ -2,7 +2,7 @@
 use Rattle.std.specs.Prelude.{◌≡◌, refl, Bool, ◌&&◌, ◌||◌, cond, ℕ, ◌+◌, ◌<◌, ◌≤◌, length}
 use Rattle.std.proofs.Math.Path.{ap, subst}
 use Rattle.std.proofs.Common.{sym, ◌∙◌, arith}
-use Rattle.std.proofs.Math.Bool.{true, false, and_false}
+use Rattle.std.proofs.Math.Bool.{true, false, and-false}
 use Rattle.std.proofs.Math.Option.{Option}
 use mathlib.Core.List.{List, [], ◌∷◌}
 use Rattle.std.proofs.Math.Dec.{eqb}
@@ -14,8 +14,8 @@ use Rattle.records.specs.Label.{Label, Trees, is, bit, ◌∶◌, arity}
 use Rattle.records.specs.Place.{records_at, label_at, arity_at, kids_at, record_one}
 use Rattle.grammar.specs.Grammar.{Slot, row_of, table, row, slots, slots_below, module', class_under}
 use Rattle.grammar.specs.WellFormed.{Fits}
-use Rattle.grammar.specs.Children.{allowed_sole}
-use Rattle.grammar.specs.Rows.{sole_kind}
+use Rattle.grammar.proofs.Children.{allowed_sole}
+use Rattle.grammar.proofs.Rows.{sole_kind}
 use Rattle.rewriting.specs.Parts.{Role, module' as module_role, list, method, constructor, plain, field, role_of, is_member, is_decorated_member, has_plain_key, class_kids}
 use Rattle.rewriting.specs.Visit.{Around, State, visit, visit_one}
 use Rattle.walk_laws.specs.Slots.{Standing, standing_at, RowFits, kind_row, arity_slots, row_first, fits_count}
@@ -102,7 +102,7 @@ after_element : (l : Label) (around : Around) (k : Trees) (s : State) → 2 ≤ 
 after_element l around k s h e =
     role_element l
     (λ (r : Role). role_of l ≡ r → (visit_one around l k s).after ≡ member_after (around.live && is_decorated_member l k) (has_plain_key k) around.id (visit around k s).after) e
-    (λ m r. after_constructor around l k s r ∙ sym (member_none (around.live && is_decorated_member l k) (has_plain_key k) around.id (visit around k s).after (ap (around.live &&◌) (no_member_lem l k m) ∙ and_false around.live)))
+    (λ m r. after_constructor around l k s r ∙ sym (member_none (around.live && is_decorated_member l k) (has_plain_key k) around.id (visit around k s).after (ap (around.live &&◌) (no_member_lem l k m) ∙ and-false around.live)))
     (after_method around l k s h) (after_field around l k s h) refl
 
 pub below_4 : (q : Slot) (p : ℕ) → slots_below q 4 p ≡ class_under p ∷ []

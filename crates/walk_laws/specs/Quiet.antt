@@ -2,8 +2,8 @@
 use Rattle.std.specs.Prelude.{◌≡◌, Bool, true, false, ◌&&◌, ◌||◌, not, cond, List, [], ◌∷◌, ◌++◌, ℕ, zero, suc, eqb, T, replicate}
 use Rattle.std.proofs.Math.Path.{refl}
 use Rattle.std.proofs.Common.{ap, ◌∙◌, true≢false, eqb-true, eq-eqb}
-use Rattle.std.proofs.Math.Bool.{and_false}
-use Rattle.std.proofs.lemmas.Bool.{false≢true, not_true}
+use Rattle.std.proofs.Math.Bool.{and-false}
+use Rattle.std.proofs.lemmas.Bool.{false≢true, not-true}
 use Rattle.std.proofs.Math.Option.{Option}
 use Rattle.words.specs.Table.{lookup}
 use Rattle.records.specs.Forest.{end, node, take_f, append_f}
@@ -11,7 +11,7 @@ use Rattle.records.specs.Label.{Label, Origin, Trees, ◌∶◌, is}
 use Rattle.records.specs.Place.{records_at, label_at, kids_at}
 use Rattle.grammar.specs.Grammar.{Slot, Class, Body, Element, Run, Row, row, no_row, leaf, expressions, one_expression, statements, table, row_of, slots, slots_below}
 use Rattle.grammar.specs.WellFormed.{Allowed, Fits}
-use Rattle.grammar.specs.Rows.{each, each_row, test_left, test_right, implied, allowed_row}
+use Rattle.grammar.proofs.Rows.{each, each_row, test_left, test_right, implied, allowed_row}
 use Rattle.rewriting.specs.Parts.{Role, module', list, statement, expression, method, constructor, plain, field, role_of, decorators, decorators_of, bare_method, bare_field, is_member, is_decorated_member, is_decorated, is_live, class_kids}
 use Rattle.rewriting.specs.Visit.{Around, State, Result, member_if, member, decorated₁, decorated₂, live_class_if, live_class, dead_class, class_if, kept, own, since, work, inside, entering, join, ◌then◌, visit, visit_one, visit_node}
 use Rattle.walk_laws.specs.Rows.{visit_at}
@@ -64,7 +64,7 @@ no_member p o k r = cond (quiet r.category) (not (is_member (record { kind = k; 
 
 pub quiet_member : (l : Label) → quiet (row_of l.kind).category ≡ true → is_member l ≡ false
 unfolding each table row no_row no_member quiet is_member is lookup
-quiet_member l e = not_true (is_member l) (T_true (not (is_member l)) (implied (quiet (row_of l.kind).category) (not (is_member l)) (each_row (no_member l.payload l.from) tt l.kind tt) e))
+quiet_member l e = not-true (is_member l) (T_true (not (is_member l)) (implied (quiet (row_of l.kind).category) (not (is_member l)) (each_row (no_member l.payload l.from) tt l.kind tt) e))
 
 unfoldable no_class : ℕ → Row → Bool
 no_class k r = cond (eqb r.category Element) (not (has_class k)) true
@@ -103,11 +103,11 @@ own_calls list around l kids outside a n e = e
 own_calls statement around l kids outside a n e = class_if_calls (is_live kids) l kids outside a
 own_calls expression around l kids outside a n e = refl
 own_calls method around l kids outside a n e =
-    member_if_calls (around.live && is_decorated_member l kids) around l kids (bare_method a.here) (decorators_of method a.here) (13 ∶ 0) a (ap (around.live &&◌) n ∙ and_false around.live) ∙ e
+    member_if_calls (around.live && is_decorated_member l kids) around l kids (bare_method a.here) (decorators_of method a.here) (13 ∶ 0) a (ap (around.live &&◌) n ∙ and-false around.live) ∙ e
 own_calls constructor around l kids outside a n e = e
 own_calls plain around l kids outside a n e = e
 own_calls (field d) around l kids outside a n e =
-    member_if_calls (around.live && is_decorated_member l kids) around l kids (bare_field a.here) (decorators a.here) d a (ap (around.live &&◌) n ∙ and_false around.live) ∙ e
+    member_if_calls (around.live && is_decorated_member l kids) around l kids (bare_field a.here) (decorators a.here) d a (ap (around.live &&◌) n ∙ and-false around.live) ∙ e
 
 pub one_quiet : (around : Around) (l : Label) (k : Trees) (s : State) → is_decorated_member l k ≡ false → ((a : Around) (t : State) → (visit a k t).calls ≡ end) → (visit_one around l k s).calls ≡ end
 unfolding visit_one work since

@@ -8,7 +8,7 @@ use Rattle.records.specs.Label.{Label, Trees}
 use Rattle.records.specs.Place.{records_at, label_at, arity_at, kids_at, end_of, end_drop, record_one, records_past}
 use Rattle.rewriting.specs.Parts.{plain, role_of, tree}
 use Rattle.rewriting.specs.Visit.{Around, State, Result, visit, visit_one, visit_node, join, ◌then◌, work, since, own, kept, inside, entering, signed_by}
-use Rattle.rewriting.specs.Facts.{visit_append}
+use Rattle.rewriting.proofs.Facts.{visit_append}
 
 -- the visit of the k records at `at`
 unfoldable pub visit_at : List ℕ → ℕ → ℕ → Around → State → Result

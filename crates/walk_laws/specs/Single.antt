@@ -8,7 +8,7 @@ use Rattle.records.specs.Label.{Label, Origin, Trees, ◌∶◌}
 use Rattle.records.specs.Place.{label_at, kids_at, end_of, end_none, end_add}
 use Rattle.grammar.specs.Grammar.{Slot, Expression, Row, row, no_row, table, row_of}
 use Rattle.grammar.specs.WellFormed.{Allowed}
-use Rattle.grammar.specs.Rows.{each, each_row, implied, allowed_row}
+use Rattle.grammar.proofs.Rows.{each, each_row, implied, allowed_row}
 use Rattle.rewriting.specs.Parts.{Role, module', list, statement, expression, method, constructor, plain, field, role_of, tree, decorators, decorators_of, bare_method, bare_field, is_decorated_member}
 use Rattle.rewriting.specs.Visit.{Around, State, Result, kept, dead_class, called₁, called₂, member_if, member, own, since, work, inside, entering, visit, visit_one}
 use Rattle.walk_laws.specs.Rows.{visit_at, one_here}

@@ -12,8 +12,8 @@ use Rattle.records.specs.Label.{Label, Trees, arity}
 use Rattle.records.specs.Place.{records_at, label_at, arity_at, kids_at, end_of, records_node, records_past, records_first}
 use Rattle.grammar.specs.Grammar.{Slot, slot, slots_below}
 use Rattle.grammar.specs.WellFormed.{Allowed, Fits}
-use Rattle.grammar.specs.Children.{fits_append}
-use Rattle.grammar.specs.Rows.{length_below}
+use Rattle.grammar.proofs.Children.{fits_append}
+use Rattle.grammar.proofs.Rows.{length_below}
 
 -- ---- a forest in its slots
 

@@ -2,7 +2,7 @@
 use Rattle.std.specs.Prelude.{◌≡◌, Bool, ◌&&◌, ◌||◌, List, [], ◌∷◌, eqb}
 use Rattle.std.proofs.Math.Path.{refl, ap, sym, subst}
 use Rattle.std.proofs.Common.{◌∙◌, true≢false}
-use Rattle.std.proofs.Math.Bool.{true, false, not, cond, and_false, or_false}
+use Rattle.std.proofs.Math.Bool.{true, false, not, cond, and-false, or-false}
 use Rattle.std.proofs.Math.Option.{none}
 use Prim.Native.Nat.{ℕ, zero, suc, ◌+◌, ◌-◌, ◌<◌, ◌≤◌}
 use native.Mathlib.Omega.{arith}
@@ -16,8 +16,8 @@ use Rattle.records.specs.Label.{Label, Trees, repay, is, bit, ◌∶◌}
 use Rattle.records.specs.Place.{records_at, label_at, arity_at, kids_at, end_of, records_past, record_one, row_open, row_kids, size_open}
 use Rattle.grammar.specs.Grammar.{Slot, module' as moduleSlot, class_under, slots_below}
 use Rattle.grammar.specs.WellFormed.{Allowed, Fits}
-use Rattle.grammar.specs.Children.{allowed_sole}
-use Rattle.grammar.specs.Rows.{length_below, sole_kind}
+use Rattle.grammar.proofs.Children.{allowed_sole}
+use Rattle.grammar.proofs.Rows.{length_below, sole_kind}
 use Rattle.rewriting.specs.Parts.{Role, module', list, statement, expression, method, constructor, plain, field, role_of, tree, recount, is_empty, kids_of, change_kids, any_record, decorators, undecorate, parameters_of, indexed, of_parameters, bare_parameters, decorators_of, bare_method, bare_field, is_member, is_decorated_member, is_decorated, is_live, id_of, class_kids}
 use Rattle.rewriting.specs.Visit.{Around, State, Result, signed, member, member_if, undecorated_if, live_class_if, live_class, dead_class, class_if, kept, own, since, signed_by, work, inside, entering, join, ◌then◌, visit, visit_one, visit_node}
 use Rattle.walk_laws.specs.Slots.{fits_count, Standing, standing_at}
@@ -66,7 +66,7 @@ class_still false l (node c ck end) s h n = refl
 member_still : (around : Around) (l : Label) (k bare entries : Trees) (d : Label) (s : State) → is_decorated_member l k ≡ false → bare ≡ k →
     member around l k bare entries d (same k s) ≡ same (tree l k) s
 unfolding member member_if same
-member_still around l k bare entries d s h e = rw (h, and_false around.live, e)
+member_still around l k bare entries d s h e = rw (h, and-false around.live, e)
 
 own_still : (r : Role) (around : Around) (l : Label) (k : Trees) (s : State) → StillOne r l k → ((a : Around) (t : State) → visit a k t ≡ same k t) →
     work r around l k s.default (visit (inside r around k) k (entering r s)) ≡ same (tree l k) s
@@ -233,7 +233,7 @@ class_plain q l k e f h = plain_one l.payload k (subst (λ (qs : List Slot). Fit
 
 member_30 : (l : Label) → l.kind ≡ 30 → is_member l ≡ not (bit bit1 l)
 unfolding is_member is
-member_30 l g = rw (eq-eqb l.kind 30 g, ne_eqb l.kind 31 (λ e. omega (arith, g, e)), ne_eqb l.kind 32 (λ e. omega (arith, g, e)), or_false, or_false)
+member_30 l g = rw (eq-eqb l.kind 30 g, ne_eqb l.kind 31 (λ e. omega (arith, g, e)), ne_eqb l.kind 32 (λ e. omega (arith, g, e)), or-false, or-false)
 
 change_parts : (l : Label) (k : Trees) → changes l k ≡ false → (eqb l.kind 1 ≡ false) × (is_decorated_member l k ≡ false)
 unfolding changes is

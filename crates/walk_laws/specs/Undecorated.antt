@@ -9,8 +9,8 @@ use Rattle.records.specs.Label.{Label, Trees, is}
 use Rattle.records.specs.Place.{records_at, label_at, kids_at}
 use Rattle.grammar.specs.Grammar.{Slot, slot, Decorators, Element, expression, id, body, element, row, table, row_of, slots, slots_below, module'}
 use Rattle.grammar.specs.WellFormed.{Allowed, Fits}
-use Rattle.grammar.specs.Children.{allowed_sole}
-use Rattle.grammar.specs.Rows.{sole_kind, allowed_row}
+use Rattle.grammar.proofs.Children.{allowed_sole}
+use Rattle.grammar.proofs.Rows.{sole_kind, allowed_row}
 use Rattle.rewriting.specs.Parts.{kids_of, is_member, is_decorated_member, elements_of}
 use Rattle.rewriting.specs.Visit.{Around, State, Result, visit, visit_one}
 use Rattle.walk_laws.specs.Rows.{visit_at, one_after}

@@ -1,4 +1,6 @@
 // The word: kind and payload, and the number of a record's children. Pure functions of one word.
+#![tactic(auto)]
+
 ghost use Rattle.std.specs.Prelude.{◌≡◌, ◌<◌};
 ghost use Rattle.words.specs.Word.{kind_of, payload_of, word_of, children};
 ghost use Rattle.words.specs.Shape.{shape_of, children_by, bit_of, apart};

@@ -1,4 +1,4 @@
-//! Gingerpost: rewrites the decorated classes of a module. A safe interface to the proved C entry, `libhost.a` of `rt staticlib host`.
+//! Gingerpost: rewrites the decorated classes of a module. A safe interface to the proved C entry, `libhost.a` of `tools/build archive`.
 //!
 //! A module is a list of 32-bit words; docs/FORMAT.md says which, and [`word`] makes one of a kind and a payload. [`rewritten`] takes and returns
 //! words and is what most hosts want. [`rewrite`] works on bytes in buffers of the caller, four to a word, lowest first, and allocates nothing.

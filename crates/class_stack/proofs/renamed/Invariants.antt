@@ -1,0 +1,10 @@
+use mathlib.Core.Path.{◌≡◌, ap, sym}
+use Prim.Native.Nat.{◌<◌, ◌≤◌}
+use Rattle.class_stack.specs.Renaming.{capacity, entries, rename_p, subs}
+use Rattle.class_stack.proofs.renamed.Given as goal
+
+abbrev pub invariant-loop-i : goal.invariant-loop-i
+invariant-loop-i l = (l.i ≤ capacity) × (l.x < 67108864) × (rename_p (entries l.s.symbols l.s.aliases l.i) l.x ≡ rename_p (subs l.s) l.p)
+
+abbrev pub decreases-loop-i : goal.decreases-loop-i
+decreases-loop-i l = l.i

@@ -1,0 +1,9 @@
+pub mod Rows
+pub mod Faults
+pub mod Places
+pub mod Refused
+pub mod Accepted
+pub mod Answers
+pub mod Children
+pub mod Words
+pub mod SetLaws

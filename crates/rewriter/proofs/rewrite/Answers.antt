@@ -1,0 +1,33 @@
+-- `rewrite`: a fault of validation; else at most 64 words, at most 512, or at most 4,096, and the rest is `rewrite_by`.
+use Rattle.rewriter.specs.Start.{well}
+use Rattle.rewriter.specs.Result.{back_fault, answer_back, lent_back}
+use Rattle.rewriter.specs.Numbers.{numbers_of}
+use Rattle.rewriting.specs.Answer.{module_words, rewrite_answer, rewrite_lent}
+use mathlib.Core.Path.{sym, ◌∙◌}
+use native.Mathlib.Omega.{arith}
+use Rattle.rewriter.proofs.rewrite.Goals as goal
+
+pub returns-then-v-ne0 : goal.returns-then-v-ne0
+unfolding numbers_of rewrite_answer rewrite_lent
+returns-then-v-ne0 c = 
+    let g = c.args in
+    let ws = g.ws.now in
+    let v = c.number-v.result in
+    let b = back_fault ws v (c.number-v.ensures ∙ c.validate.ensures) c.if-v-ne0.true in
+    let n = answer_back ws (module_words ws) g.out.now v b c.if-v-ne0.true in
+    record {
+      numbers = n;
+      lent = lent_back ws (module_words ws) g.out.now (record { code = v; written = 0; fresh = 0 }) n c.if-v-ne0.true (module_words ws);
+      demand = λ z. absurd (c.if-v-ne0.true z);
+    }
+
+pub rewrite_by-requires : goal.rewrite_by-requires
+rewrite_by-requires c = (sym (c.number-v.ensures ∙ c.validate.ensures) ∙ c.if-v-ne0.false, omega (arith, c.if-ws-le64.true))
+
+pub rewrite_by-requires-then-ws-le512 : goal.rewrite_by-requires-then-ws-le512
+rewrite_by-requires-then-ws-le512 c = (sym (c.number-v.ensures ∙ c.validate.ensures) ∙ c.if-v-ne0.false, omega (arith, c.if-ws-le512.true))
+
+pub rewrite_by-requires-2 : goal.rewrite_by-requires-2
+rewrite_by-requires-2 c = 
+    let ok = sym (c.number-v.ensures ∙ c.validate.ensures) ∙ c.if-v-ne0.false in
+    (ok, omega (arith, (well c.args.ws.now ok).sized.few))

@@ -1,0 +1,18 @@
+-- `has_room`: with a third of the words by `report_length`, else by what the walk with no output counts.
+use Prim.Native.Nat.{ℕ}
+use mathlib.Core.Path.{◌≡◌, sym, ap}
+use native.Mathlib.Omega.{arith}
+use lib.ListN.{length}
+use lib.Dec.{leb}
+use borrow.Author.Tests.{le-leb}
+use Rattle.rewriting.proofs.Report.{report_length}
+use Rattle.rewriting.specs.Answer.{report_words}
+use Rattle.symbol_report.proofs.has_room.Goals as goal
+
+pub returns-then-ws-room : goal.returns-then-ws-room
+returns-then-ws-room c = sym (le-leb (length (report_words c.args.ws.now)) c.args.room (omega (arith, report_length c.args.ws.now c.requires.0)))
+
+pub returns : goal.returns
+returns c = 
+    let e : c.write_report-m.result.pos ≡ length (report_words c.args.ws.now) = omega (arith, c.write_report-m.ensures.wrote.end) in
+    ap (λ (n : ℕ). leb n c.args.room) e
