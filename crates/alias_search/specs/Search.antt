@@ -3,7 +3,7 @@ use Rattle.std.proofs.Math.Path.{◌≡◌, refl, ap, sym, subst}
 use Rattle.std.proofs.Common.{◌∙◌}
 use Rattle.std.specs.Prelude.{Bool, ◌&&◌, ◌||◌, cond, ℕ}
 use Rattle.std.proofs.Math.Bool.{true, false, not, or-true, or-false, or_assoc, and-false, and-true, and-or_distrib_left}
-use Rattle.std.proofs.Math.Option.{Option, none, some}
+use Rattle.std.proofs.Math.Option.{Option, some}
 use native.Mathlib.Omega.{arith}
 use borrow.Author.Tests.{not-false}
 use Rattle.words.specs.Table.{lookup}

@@ -13,9 +13,9 @@ pub data Answer (ws : List ℕ) (n : ℕ) : Type 0 where
   not_sized : n ≡ 1 → (Sized ws → ⊥) → Answer ws n
   malformed : n ≡ 2 → Sized ws → Malformed ws → Answer ws n
   too_deep : n ≡ 3 → Sized ws → FirstAtFault ws TooDeep → Answer ws n
-  unknown_symbol_lem : n ≡ 4 → Sized ws → FirstAtFault ws (UnknownSymbol (symbols_of ws)) → Answer ws n
-  too_many_symbols_lem : n ≡ 5 → Sized ws → FirstAtFault ws TooManySymbols → Answer ws n
-  decorated_constructor_lem : n ≡ 6 → Sized ws → FirstAtFault ws DecoratedConstructor → Answer ws n
+  unknown_symbol : n ≡ 4 → Sized ws → FirstAtFault ws (UnknownSymbol (symbols_of ws)) → Answer ws n
+  too_many_symbols : n ≡ 5 → Sized ws → FirstAtFault ws TooManySymbols → Answer ws n
+  decorated_constructor : n ≡ 6 → Sized ws → FirstAtFault ws DecoratedConstructor → Answer ws n
 
 module _ (ws : List ℕ) where
   told : (n : ℕ) → refusal ws ≡ n → n ≤ 6 → Answer ws n
@@ -23,9 +23,9 @@ module _ (ws : List ℕ) where
   told (suc zero) e h = not_sized refl ((refused_1 ws).0 e)
   told (suc (suc zero)) e h = let r = (refused_2 ws).0 e in malformed refl r.0 r.1
   told (suc (suc (suc zero))) e h = let r = (refused_3 ws).0 e in too_deep refl r.0 r.1
-  told (suc (suc (suc (suc zero)))) e h = let r = (refused_4 ws).0 e in unknown_symbol_lem refl r.0 r.1
-  told (suc (suc (suc (suc (suc zero))))) e h = let r = (refused_5 ws).0 e in too_many_symbols_lem refl r.0 r.1
-  told (suc (suc (suc (suc (suc (suc zero)))))) e h = let r = (refused_6 ws).0 e in decorated_constructor_lem refl r.0 r.1
+  told (suc (suc (suc (suc zero)))) e h = let r = (refused_4 ws).0 e in unknown_symbol refl r.0 r.1
+  told (suc (suc (suc (suc (suc zero))))) e h = let r = (refused_5 ws).0 e in too_many_symbols refl r.0 r.1
+  told (suc (suc (suc (suc (suc (suc zero)))))) e h = let r = (refused_6 ws).0 e in decorated_constructor refl r.0 r.1
   told (suc (suc (suc (suc (suc (suc (suc n))))))) e h = absurd (omega arith)
 
   known : (n : ℕ) → Answer ws n → refusal ws ≡ n
@@ -33,9 +33,9 @@ module _ (ws : List ℕ) where
   known n (not_sized e z) = (refused_1 ws).1 z ∙ sym e
   known n (malformed e z m) = (refused_2 ws).1 (z, m) ∙ sym e
   known n (too_deep e z f) = (refused_3 ws).1 (z, f) ∙ sym e
-  known n (unknown_symbol_lem e z f) = (refused_4 ws).1 (z, f) ∙ sym e
-  known n (too_many_symbols_lem e z f) = (refused_5 ws).1 (z, f) ∙ sym e
-  known n (decorated_constructor_lem e z f) = (refused_6 ws).1 (z, f) ∙ sym e
+  known n (unknown_symbol e z f) = (refused_4 ws).1 (z, f) ∙ sym e
+  known n (too_many_symbols e z f) = (refused_5 ws).1 (z, f) ∙ sym e
+  known n (decorated_constructor e z f) = (refused_6 ws).1 (z, f) ∙ sym e
 
   -- n is answered exactly when its condition holds
   pub answered : (n : ℕ) → refusal ws ≡ n ↔ Answer ws n

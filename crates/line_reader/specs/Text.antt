@@ -1,5 +1,5 @@
 -- What the bytes of a text say, read on from a stage: the words of the lines that end in them, and the line that is reached. Assumes nothing.
-use Rattle.std.specs.Prelude.{◌≡◌, refl, Bool, true, false, cond, List, [], ◌∷◌, ◌++◌, ℕ, ◌+◌, ◌-◌, ◌<◌, ◌≤◌, min, ltb, eqb, length, take, get_or}
+use Rattle.std.specs.Prelude.{◌≡◌, refl, Bool, true, false, cond, List, [], ◌∷◌, ◌++◌, ℕ, ◌+◌, ◌<◌, ◌≤◌, min, ltb, eqb, length, take, get_or}
 use Rattle.std.proofs.Common.{sym, ap, ◌∙◌, append_assoc, append-nil, add-one, arith, length-append, take-suc, take_all}
 use borrow.Author.Tests.{ltb-false, ltb-true, eq-eqb, ne_eqb}
 use Rattle.words.specs.Word.{word_of}

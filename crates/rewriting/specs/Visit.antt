@@ -1,5 +1,5 @@
 -- The rewriting of a module as a definition on forests: rules 1 to 10 of document 01. Definitions, and the clauses of the visit.
-use Rattle.std.specs.Prelude.{◌≡◌, refl, Bool, true, false, ◌&&◌, ◌||◌, not, cond, List, [], ◌∷◌, ◌++◌, map, ℕ, zero, suc, ◌+◌, eqb}
+use Rattle.std.specs.Prelude.{◌≡◌, refl, Bool, true, false, ◌&&◌, ◌||◌, cond, List, [], ◌∷◌, ◌++◌, map, ℕ, zero, suc, eqb}
 use Rattle.std.proofs.Math.Option.{Option, none, some}
 use Rattle.words.specs.Word.{bit0}
 use Rattle.records.specs.Forest.{end, node, flat, take_f, drop_f, append_f, count_f, any_f, map_f}

@@ -1,5 +1,5 @@
 -- The words of a class statement by the plan of its class, as the walkers write them. Definitions only.
-use Rattle.std.specs.Prelude.{◌≡◌, Bool, true, ◌&&◌, ◌||◌, not, cond, List, [], ◌∷◌, ◌++◌, ℕ, ◌+◌, ◌-◌, ◌<◌, ◌≤◌, eqb, get_or}
+use Rattle.std.specs.Prelude.{◌≡◌, Bool, true, ◌&&◌, ◌||◌, not, cond, List, [], ◌∷◌, ◌++◌, ℕ, ◌+◌, ◌<◌, ◌≤◌, eqb, get_or}
 use Rattle.records.specs.Forest.{count_f}
 use Rattle.records.specs.Label.{Trees}
 use Rattle.records.specs.Place.{arity_at, kids_at}

@@ -1,5 +1,5 @@
 -- The contracts of the walkers that write: what they ask of the words and the class stack, and what they leave. Definitions only.
-use Rattle.std.specs.Prelude.{◌≡◌, Bool, ◌&&◌, not, List, ◌∷◌, ◌++◌, ℕ, ◌+◌, ◌-◌, ◌<◌, ◌≤◌}
+use Rattle.std.specs.Prelude.{◌≡◌, Bool, ◌&&◌, not, List, ◌∷◌, ◌++◌, ℕ, ◌+◌, ◌<◌, ◌≤◌}
 use Rattle.records.specs.Forest.{count_f}
 use Rattle.records.specs.Label.{Trees}
 use Rattle.records.specs.Place.{label_at, kids_at, end_of}

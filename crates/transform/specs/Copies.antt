@@ -2,7 +2,7 @@
 use Rattle.std.specs.Prelude.{◌≡◌, true, List, [], ◌∷◌, ◌++◌, ℕ, ◌+◌, ◌-◌, ◌/◌, ◌<◌, ◌≤◌, length}
 use Rattle.std.proofs.Math.Path.{refl, ap, sym}
 use Rattle.std.proofs.Common.{subst, ◌∙◌, append-nil, append_assoc, arith}
-use Rattle.records.specs.Forest.{end, take_f, count_f, size}
+use Rattle.records.specs.Forest.{take_f, count_f, size}
 use Rattle.records.specs.Place.{records_at, label_at, end_of, record_one, end_low, end_high}
 use Rattle.output.specs.Overlay.{Wrote, wrote_none, wrote_then}
 use Rattle.class_stack.specs.Renaming.{Ready as StackReady}

@@ -4,7 +4,7 @@ use Rattle.std.proofs.Math.Path.{ap}
 use Rattle.std.proofs.Common.{sym, ◌∙◌, arith}
 use Rattle.std.proofs.Math.Option.{Option}
 use Rattle.records.specs.Forest.{end, node, take_f, count_f}
-use Rattle.records.specs.Label.{Label, Trees, is}
+use Rattle.records.specs.Label.{Label, Trees}
 use Rattle.records.specs.Place.{records_at, label_at, kids_at}
 use Rattle.grammar.specs.Grammar.{module'}
 use Rattle.grammar.specs.WellFormed.{Fits}

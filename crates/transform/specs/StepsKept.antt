@@ -2,7 +2,7 @@
 use Rattle.std.specs.Prelude.{◌≡◌, refl, List, [], ◌∷◌, ◌++◌, ℕ, suc, ◌+◌, ◌-◌, ◌*◌, ◌<◌, ◌≤◌, length}
 use Rattle.std.proofs.Math.Path.{ap, sym}
 use Rattle.std.proofs.Common.{subst, ◌∙◌, append-nil, append_assoc, arith}
-use Rattle.records.specs.Forest.{end, append_f, count_f, size}
+use Rattle.records.specs.Forest.{end, append_f, size}
 use Rattle.records.specs.Label.{Trees}
 use Rattle.records.specs.Place.{label_at, arity_at, end_of, end_one, end_none, end_past, end_add, end_low}
 use Rattle.output.specs.Overlay.{Wrote, wrote_none, wrote_then}

@@ -1,24 +1,24 @@
 -- Laws for the walkers of records that are kept, of lists, of a module and of classes that aren't live. Assumes nothing.
-use Rattle.std.specs.Prelude.{◌≡◌, Bool, true, false, ◌⊎◌, length, get_or, replicate}
+use Rattle.std.specs.Prelude.{◌≡◌, Bool, true, false, length, get_or, replicate}
 use Rattle.std.proofs.Math.Path.{refl, ap, sym, subst}
-use Rattle.std.proofs.Common.{◌∙◌, inl, ⊎_elim, eq-eqb, ne_eqb}
+use Rattle.std.proofs.Common.{◌∙◌}
 use Rattle.std.proofs.Math.Option.{Option, none}
 use mathlib.Core.List.{List, [], ◌∷◌, ◌++◌}
 use Prim.Native.Nat.{ℕ, suc, ◌+◌, ◌-◌, ◌*◌, ◌<◌, ◌≤◌}
 use native.Mathlib.Omega.{arith}
 use Rattle.words.specs.Table.{lookup}
-use Rattle.words.specs.Word.{bit1, children, child_table}
+use Rattle.words.specs.Word.{children, child_table}
 use Rattle.records.specs.Forest.{end, node, flat, take_f, append_f, count_f, size, size_node, size_append}
 use Rattle.words.specs.Word.{kind_lt}
-use Rattle.records.specs.Label.{Label, Trees, read_at, repay, is, bit, arity}
+use Rattle.records.specs.Label.{Label, Trees, read_at, repay, arity}
 use Rattle.records.specs.Place.{records_at, label_at, arity_at, kids_at, end_of, end_one, end_none, end_high}
 use Rattle.output.specs.Overlay.{Wrote, wrote_then, wrote_front}
 use Rattle.grammar.specs.Grammar.{Slot, row, table, row_of, slots, slots_below, module', symbols, own_statement}
 use Rattle.grammar.proofs.Children.{allowed_sole}
 use Rattle.grammar.proofs.Rows.{sole_kind}
 use Rattle.grammar.specs.WellFormed.{Fits}
-use Rattle.rewriting.specs.Parts.{module' as module_role, list, expression, constructor, plain, role_of, tree, recount, is_member, is_constructor, is_live, class_kids, id_of}
-use Rattle.rewriting.specs.Visit.{Around, State, Result, visit, visit_one, work, since, own, kept, dead_class, whole_module, inside, entering}
+use Rattle.rewriting.specs.Parts.{module' as module_role, list, expression, plain, role_of, tree, recount, is_member, is_live, class_kids, id_of}
+use Rattle.rewriting.specs.Visit.{Around, State, Result, visit, visit_one, work, since, own, dead_class, whole_module, inside, entering}
 use Rattle.class_stack.specs.declared.ClassStack.{ClassStack}
 use Rattle.inspect.specs.Child.{opt_of, opt_none}
 use Rattle.walk_laws.specs.Rows.{visit_at, fresh, here_add}
@@ -27,7 +27,7 @@ use Rattle.walk_laws.specs.Slots.{Standing, standing_at, RowFits, kind_row, row_
 use Rattle.walk_laws.specs.Single.{Stays, keeps, one_stays}
 use Rattle.walk_laws.specs.Roles.{role_20, Sort, is_method, is_property, is_accessor, member_sort}
 use Rattle.walk_laws.specs.Members.{member_written}
-use Rattle.walk_laws.specs.After.{after_plain, after_constructor, after_list, after_module, after_expression}
+use Rattle.walk_laws.specs.After.{after_list, after_module, after_expression}
 use Rattle.walk_laws.specs.Kinds.{class_one, class_row_one, class_kids_lem}
 use Rattle.counter.specs.Contract.{around_of, state_of}
 use Rattle.counter.specs.declared.Scope.{Scope}

@@ -3,7 +3,7 @@ use Rattle.std.specs.Prelude.{◌≡◌, refl, Bool, true, false, ◌&&◌, ◌|
 use Rattle.std.proofs.Common.{ap, sym}
 use Rattle.std.proofs.Math.Option.{some}
 use Rattle.records.specs.Forest.{flat}
-use Rattle.records.specs.Label.{Label, Trees, repay, is, word_at, words, ◌∶◌}
+use Rattle.records.specs.Label.{Label, Trees, repay, is, word_at, ◌∶◌}
 use Rattle.rewriting.specs.Visit.{is_ref, to_alias}
 use Rattle.class_stack.specs.Renaming.{Sub, rename_l}
 use Rattle.walk_laws.specs.Written.{word_by, written}

@@ -1,12 +1,12 @@
 -- A member without decorators stays as it is, but for what becomes of the records in it. Assumes nothing.
-use Rattle.std.specs.Prelude.{◌≡◌, Bool, true, ◌&&◌, cond, List, [], ◌∷◌, ◌++◌, length, replicate}
+use Rattle.std.specs.Prelude.{◌≡◌, true, ◌&&◌, cond, List, [], ◌∷◌, ◌++◌, length, replicate}
 use Rattle.std.proofs.Math.Path.{refl, ap, sym}
-use Rattle.std.proofs.Common.{subst, ◌∙◌, arith, eqb-true}
+use Rattle.std.proofs.Common.{subst, ◌∙◌, eqb-true}
 use Rattle.std.proofs.Math.Bool.{false, and-false}
 use Prim.Native.Nat.{ℕ, zero, suc, ◌+◌, ◌-◌, ◌<◌}
 use Rattle.words.specs.Word.{children}
 use Rattle.records.specs.Forest.{end, node, append_f, count_f}
-use Rattle.records.specs.Label.{Label, Trees, repay, is, ◌∶◌}
+use Rattle.records.specs.Label.{Label, Trees, repay, is}
 use Rattle.records.specs.Place.{records_at, label_at, arity_at, kids_at, end_of, end_add}
 use Rattle.grammar.specs.Grammar.{Slot, slot, Decorators, module', expression, parameter_decorators, parameter_of, slots_below}
 use Rattle.grammar.specs.WellFormed.{Fits}

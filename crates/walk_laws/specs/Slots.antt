@@ -10,7 +10,7 @@ use Rattle.std.proofs.lemmas.List.{length-replicate}
 use Rattle.records.specs.Forest.{end, node, take_f, drop_f, append_f, count_f, take_drop, take_f_end}
 use Rattle.records.specs.Label.{Label, Trees, arity}
 use Rattle.records.specs.Place.{records_at, label_at, arity_at, kids_at, end_of, records_node, records_past, records_first}
-use Rattle.grammar.specs.Grammar.{Slot, slot, slots_below}
+use Rattle.grammar.specs.Grammar.{Slot, slots_below}
 use Rattle.grammar.specs.WellFormed.{Allowed, Fits}
 use Rattle.grammar.proofs.Children.{fits_append}
 use Rattle.grammar.proofs.Rows.{length_below}

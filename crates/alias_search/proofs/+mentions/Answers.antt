@@ -10,7 +10,7 @@ use Rattle.records.specs.Ends.{ends_at}
 use Rattle.records.specs.Place.{label_at, arity_at, kids_at, end_low, end_one}
 use borrow.Author.Rules.{rules}
 use native.Mathlib.Omega.{arith}
-use Prim.Native.Nat.{◌+◌, ◌-◌}
+use Prim.Native.Nat.{◌+◌}
 use mathlib.Core.Bool.{Bool, cond}
 use mathlib.Core.Path.{refl, ap, sym, ◌∙◌}
 use Rattle.alias_search.proofs.+mentions.Goals as goal

@@ -11,17 +11,17 @@ use mathlib.Core.Path.{ap, sym, ◌∙◌}
 use Rattle.alias_search.proofs.mentions_word.Goals as goal
 
 pub returns-then-k-eq9 : goal.returns-then-k-eq9
-returns-then-k-eq9 c = 
+returns-then-k-eq9 c =
     let ws = c.args.ws.now in
     ap (λ n. eqb n c.args.c) c.payload_at.ensures.0 ∙ sym (word_9 c.args.c (label_at ws c.args.at) (kids_at ws c.args.at) (sym c.kind_at-k.ensures ∙ c.if-k-eq9.true))
 
 pub returns-then-k-eq18 : goal.returns-then-k-eq18
-returns-then-k-eq18 c = 
+returns-then-k-eq18 c =
     let ws = c.args.ws.now in
     ap (λ n. eqb n c.args.c) c.payload_at-then-k-eq18.ensures.0 ∙ sym (word_18 c.args.c (label_at ws c.args.at) (kids_at ws c.args.at) (sym c.kind_at-k.ensures ∙ c.if-k-eq18.true))
 
 pub returns-then-k-ne4 : goal.returns-then-k-ne4
-returns-then-k-ne4 c = 
+returns-then-k-ne4 c =
     let ws = c.args.ws.now in
     sym (no_word c.args.c (label_at ws c.args.at) (kids_at ws c.args.at) (λ e. c.if-k-eq9.false (c.kind_at-k.ensures ∙ e)) (λ e. c.if-k-eq18.false (c.kind_at-k.ensures ∙ e)) (λ e. c.if-k-ne4.true (c.kind_at-k.ensures ∙ e)))
 

@@ -5,7 +5,7 @@ use Rattle.class_stack.specs.Entries.{entries_push, payloads_set}
 use Rattle.class_stack.proofs.push.Goals as goal
 
 pub returns : goal.returns
-returns c = 
+returns c =
     let s = c.args.s in
     let p = c.requires.0 in (
       entries_push s.symbols s.aliases s.depth c.args.symbol c.args.alias (omega arith) (omega arith),

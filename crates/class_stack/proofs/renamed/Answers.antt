@@ -3,14 +3,14 @@ use mathlib.Core.Path.{◌≡◌, refl, ap, sym, ◌∙◌, subst}
 use Prim.Native.Nat.{ℕ, ◌<◌}
 use native.Mathlib.Omega.{arith}
 use Rattle.class_stack.specs.Entries.{rename_step}
-use Rattle.class_stack.specs.Renaming.{entries, rename_p, subs, swapped_small}
+use Rattle.class_stack.specs.Renaming.{entries, rename_p, swapped_small}
 use Rattle.class_stack.proofs.renamed.Goals as goal
 
 pub loop-i-init : goal.loop-i-init
 loop-i-init c = (c.requires.0.room, c.requires.1, refl)
 
 pub loop-i-preserved : goal.loop-i-preserved
-loop-i-preserved c = 
+loop-i-preserved c =
     let l = c.loop-i in
     let s = c.args.s in
     let small : c.swap-x.result < 67108864 = subst (λ (n : ℕ). n < 67108864) (sym c.swap-x.ensures) (swapped_small _ l.x 67108864 l.invariant.1 (c.requires.0.aliases.small _)) in
@@ -18,7 +18,7 @@ loop-i-preserved c =
 
 pub returns : goal.returns
 unfolding entries rename_p
-returns c = 
+returns c =
     let l = c.loop-i in
     let s = c.args.s in
     let e : l.i ≡ 0 = omega arith in

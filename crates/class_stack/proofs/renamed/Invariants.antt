@@ -1,4 +1,4 @@
-use mathlib.Core.Path.{◌≡◌, ap, sym}
+use mathlib.Core.Path.{◌≡◌}
 use Prim.Native.Nat.{◌<◌, ◌≤◌}
 use Rattle.class_stack.specs.Renaming.{capacity, entries, rename_p, subs}
 use Rattle.class_stack.proofs.renamed.Given as goal

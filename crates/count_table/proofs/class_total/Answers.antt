@@ -12,28 +12,28 @@ use Rattle.count_table.specs.Note.{behind_walks}
 use Rattle.count_table.proofs.class_total.Goals as goal
 
 pub class_body-b-requires : goal.class_body-b-requires
-class_body-b-requires c = 
+class_body-b-requires c =
     let g = c.args in
     let p = c.requires in
     let whole = p.0.ready.whole in
     body_asks g.ws.now whole (g.at + 1) (class_inside g.ws.now whole g.at p.0.inside p.1) (class_kind g.ws.now whole g.at p.0.inside p.1) p.0.ready.planned.ends
 
 pub offset_bounds-notes-b : goal.offset_bounds-notes-b
-offset_bounds-notes-b c = 
+offset_bounds-notes-b c =
     let g = c.args in
     let p = c.requires in
     let whole = p.0.ready.whole in
     omega (arith, p.0.ready.few, body_inside g.ws.now whole (g.at + 1) (class_inside g.ws.now whole g.at p.0.inside p.1) (class_kind g.ws.now whole g.at p.0.inside p.1) c.class_body-b.ensures)
 
 pub bounds-notes-b : goal.bounds-notes-b
-bounds-notes-b c = 
+bounds-notes-b c =
     let g = c.args in
     let p = c.requires in
     let whole = p.0.ready.whole in
     omega (arith, p.0.ready.planned.ends.long, body_inside g.ws.now whole (g.at + 1) (class_inside g.ws.now whole g.at p.0.inside p.1) (class_kind g.ws.now whole g.at p.0.inside p.1) c.class_body-b.ensures)
 
 pub bounds-notes-at : goal.bounds-notes-at
-bounds-notes-at c = 
+bounds-notes-at c =
     let g = c.args in
     let p = c.requires in
     omega (arith, p.0.ready.planned.ends.long, class_inside g.ws.now p.0.ready.whole g.at p.0.inside p.1)
@@ -42,7 +42,7 @@ pub overflow_cast-result : goal.overflow_cast-result
 overflow_cast-result c = omega (arith, c.shared_slice_known-then-notes-b-eq0-1.given (c.args.at + 1))
 
 pub returns-then-notes-b-eq0 : goal.returns-then-notes-b-eq0
-returns-then-notes-b-eq0 c = 
+returns-then-notes-b-eq0 c =
     let g = c.args in
     let p = c.requires in
     let b = c.class_body-b in

@@ -10,6 +10,6 @@ pub total_noted-requires : goal.total_noted-requires
 total_noted-requires c = behind_walks c.requires.0
 
 pub returns : goal.returns
-returns c = 
+returns c =
     let g = c.args in
     dead_leads c.requires.0 c.requires.1 (subst (λ (j : ℕ). Totals g.ws.now (g.at + 1) j (record { live = false; id = 67108864 }) false c.total_noted.result) c.children_at.ensures.0 c.total_noted.ensures)

@@ -12,7 +12,7 @@ pub overflow_sub-i : goal.overflow_sub-i
 overflow_sub-i c = omega (arith, c.loop-i-test.true)
 
 pub next_change-next-requires : goal.next_change-next-requires
-next_change-next-requires c = 
+next_change-next-requires c =
     let d = down c.loop-i.invariant c.loop-i-test.true in
     (omega (arith, d.low), d.planned, d.clear)
 
@@ -35,6 +35,6 @@ pub shape_of-notes : goal.shape_of-notes
 shape_of-notes c = c.loop-i.invariant.long
 
 pub returns : goal.returns
-returns c = 
+returns c =
     let d = c.loop-i.invariant in
     (d.planned, subst (Annotated c.args.ws.now _) c.loop-i-test.false d.noted, d.long)

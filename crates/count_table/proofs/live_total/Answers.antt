@@ -9,12 +9,12 @@ pub class_id-id-requires : goal.class_id-id-requires
 class_id-id-requires c = c.requires.0.ready.planned.ends
 
 pub class_total-t-requires : goal.class_total-t-requires
-class_total-t-requires c = 
+class_total-t-requires c =
     let p = c.requires in
     (p.0, (live_kind c.args.ws.now c.args.at p.1).0)
 
 pub class_count-requires : goal.class_count-requires
-class_count-requires c = 
+class_count-requires c =
     let p = c.requires.0 in
     let k = (live_kind c.args.ws.now c.args.at c.requires.1).0 in
     (p.ready.planned, class_inside c.args.ws.now p.ready.whole c.args.at p.inside k, class_kind c.args.ws.now p.ready.whole c.args.at p.inside k, omega (arith, p.inside, p.ready.few))

@@ -16,7 +16,7 @@ pub total_record-bounds-notes-at : goal.total_record-bounds-notes-at
 total_record-bounds-notes-at t c = omega (arith, c.requires.0.ready.planned.ends.long, c.requires.1)
 
 pub total_record-returns-then-not-a : goal.total_record-returns-then-not-a
-total_record-returns-then-not-a t c = 
+total_record-returns-then-not-a t c =
     let g = c.args in
     let p = c.requires in
     let e = c.from_note.ensures in
@@ -29,7 +29,7 @@ pub total_record-total_records-requires : goal.total_record-total_records-requir
 total_record-total_records-requires t c = (omega (arith, c.requires.1), walks_next c.requires.0 c.requires.1)
 
 pub total_record-returns-then-is_walked : goal.total_record-returns-then-is_walked
-total_record-returns-then-is_walked t c = 
+total_record-returns-then-is_walked t c =
     let g = c.args in
     let p = c.requires in
     let k = ap is_walked (sym c.kind_at.ensures) ∙ sym c.is_walked.ensures ∙ c.if-is_walked.true in
@@ -43,12 +43,12 @@ pub total_record-returns : goal.total_record-returns
 total_record-returns t c = c.total_single.ensures
 
 pub total_records-loop-i-init : goal.total_records-loop-i-init
-total_records-loop-i-init t c = 
+total_records-loop-i-init t c =
     let g = c.args in
     (c.requires.ready.inside, omega arith, total_none c.requires g.a g.has)
 
 pub total_records-returns-then-ws-q : goal.total_records-returns-then-ws-q
-total_records-returns-then-ws-q t c = 
+total_records-returns-then-ws-q t c =
     let g = c.args in
     let l = c.loop-i in
     let w = walks_on c.requires l.q (totals_on c.requires l.invariant.2).0 l.invariant.0 in
@@ -66,7 +66,7 @@ pub total_records-overflow_cast-q : goal.total_records-overflow_cast-q
 total_records-overflow_cast-q t c = omega (arith, c.shared_slice_known-in-loop-i-1.given c.loop-i.q)
 
 pub total_records-loop-i-preserved-then-w-eq1 : goal.total_records-loop-i-preserved-then-w-eq1
-total_records-loop-i-preserved-then-w-eq1 t c = 
+total_records-loop-i-preserved-then-w-eq1 t c =
     let g = c.args in
     let l = c.loop-i in
     let p = c.requires in
@@ -76,25 +76,25 @@ total_records-loop-i-preserved-then-w-eq1 t c =
     ((totals_on w s).1, omega arith, total_same _ t refl (omega arith) (sym (from_none 67108864 l.n l.d refl)))
 
 pub total_records-total_record-r-requires : goal.total_records-total_record-r-requires
-total_records-total_record-r-requires t c = 
+total_records-total_record-r-requires t c =
     let l = c.loop-i in
     let o = totals_on c.requires l.invariant.2 in
     (omega (arith, o.0, c.if-ws-q.false), (walks_on c.requires l.q o.0 l.invariant.0, c.if-ws-q.false))
 
 pub total_records-default_from-d-requires : goal.total_records-default_from-d-requires
-total_records-default_from-d-requires t c = 
+total_records-default_from-d-requires t c =
     let g = c.args in
     let l = c.loop-i in
     near_total c.requires l.invariant.2 c.total_record-r.ensures (subst (λ (b : Bool). Follows g.has l.d b) (sym c.has_default.ensures) (follows g.has l.d))
 
 pub total_records-overflow_add-n : goal.total_records-overflow_add-n
-total_records-overflow_add-n t c = 
+total_records-overflow_add-n t c =
     let l = c.loop-i in
     let w = walks_on c.requires l.q (totals_on c.requires l.invariant.2).0 l.invariant.0 in
     omega (arith, totals_few c.requires l.invariant.2, totals_few w c.total_record-r.ensures)
 
 pub total_records-loop-i-preserved : goal.total_records-loop-i-preserved
-total_records-loop-i-preserved t c = 
+total_records-loop-i-preserved t c =
     let g = c.args in
     let l = c.loop-i in
     let w = walks_on c.requires l.q (totals_on c.requires l.invariant.2).0 l.invariant.0 in
@@ -102,7 +102,7 @@ total_records-loop-i-preserved t c =
     ((totals_on w c.total_record-r.ensures).1, omega arith, total_same _ t refl refl c.default_from-d.ensures)
 
 pub total_records-returns : goal.total_records-returns
-total_records-returns t c = 
+total_records-returns t c =
     let g = c.args in
     let l = c.loop-i in
     let e : l.i ≡ g.k = omega (arith, l.invariant.1, c.loop-i-test.false) in

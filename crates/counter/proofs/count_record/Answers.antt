@@ -8,13 +8,13 @@ total_single-requires c = (record { known = _; ready = c.requires.0; noted = c.r
 
 pub behind-requires : goal.behind-requires
 unfolding has_default
-behind-requires c = 
+behind-requires c =
     let g = c.args in
     (totals_room g.s.default c.requires.0 c.total_single.ensures, totals_near g.s.default c.requires.0 c.total_single.ensures)
 
 pub returns : goal.returns
 unfolding has_default
-returns c = 
+returns c =
     let g = c.args in
     let e = c.behind.ensures in
     totals_counts g.s.default c.requires.0 c.total_single.ensures e.0 e.1 e.2

@@ -9,7 +9,7 @@ pub bounds-notes-at : goal.bounds-notes-at
 bounds-notes-at c = omega (arith, c.requires.0.ready.planned.ends.long, c.requires.1)
 
 pub returns-then-w-ne1 : goal.returns-then-w-ne1
-returns-then-w-ne1 c = 
+returns-then-w-ne1 c =
     let g = c.args in
     let p = c.requires in
     let e = c.from_note-t.ensures in
@@ -22,7 +22,7 @@ pub overflow_add-result : goal.overflow_add-result
 overflow_add-result c = omega (arith, c.from_note-t.ensures.1, c.key_count-key.ensures.1)
 
 pub returns-then-a-ne-NONE : goal.returns-then-a-ne-NONE
-returns-then-a-ne-NONE c = 
+returns-then-a-ne-NONE c =
     let g = c.args in
     let p = c.requires in
     let e = c.from_note-t.ensures in
@@ -33,7 +33,7 @@ pub overflow_add-result-then-has : goal.overflow_add-result-then-has
 overflow_add-result-then-has c = omega (arith, c.from_note-t.ensures.1, c.key_count-key.ensures.1)
 
 pub returns-then-has : goal.returns-then-has
-returns-then-has c = 
+returns-then-has c =
     let g = c.args in
     let p = c.requires in
     let e = c.from_note-t.ensures in
@@ -47,7 +47,7 @@ pub overflow_add-result-3 : goal.overflow_add-result-3
 overflow_add-result-3 c = omega (arith, c.from_note-t.ensures.1, c.key_count-key.ensures.1)
 
 pub returns : goal.returns
-returns c = 
+returns c =
     let g = c.args in
     let p = c.requires in
     let e = c.from_note-t.ensures in

@@ -11,7 +11,7 @@ pub bounds-notes-at : goal.bounds-notes-at
 bounds-notes-at c = omega (arith, c.requires.0.ready.planned.ends.long, c.requires.1)
 
 pub returns-then-not-a : goal.returns-then-not-a
-returns-then-not-a c = 
+returns-then-not-a c =
     let g = c.args in
     let p = c.requires in
     let e = c.from_note.ensures in
@@ -39,7 +39,7 @@ pub bounds-notes-at-in_default : goal.bounds-notes-at-in_default
 bounds-notes-at-in_default c = omega (arith, c.requires.0.ready.planned.ends.long, c.requires.1)
 
 pub returns-in_default : goal.returns-in_default
-returns-in_default c = 
+returns-in_default c =
     let g = c.args in
     let p = c.requires in
     let k = c.kind_at-k.ensures in

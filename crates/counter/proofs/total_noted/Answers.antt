@@ -11,7 +11,7 @@ pub loop-i-init : goal.loop-i-init
 loop-i-init c = (c.requires.ready.inside, omega arith, total_none c.requires unlive false)
 
 pub returns-then-ws-q : goal.returns-then-ws-q
-returns-then-ws-q c = 
+returns-then-ws-q c =
     let g = c.args in
     let l = c.loop-i in
     let w = walks_on c.requires l.q (totals_on c.requires l.invariant.2).0 l.invariant.0 in
@@ -23,12 +23,12 @@ pub bounds-notes-q : goal.bounds-notes-q
 bounds-notes-q c = omega (arith, c.requires.ready.planned.ends.long, c.if-ws-q.false)
 
 pub overflow_add-n : goal.overflow_add-n
-overflow_add-n c = 
+overflow_add-n c =
     let e = c.from_note-t.ensures in
     omega (arith, totals_few c.requires c.loop-i.invariant.2, e.1)
 
 pub loop-i-preserved : goal.loop-i-preserved
-loop-i-preserved c = 
+loop-i-preserved c =
     let l = c.loop-i in
     let e = c.from_note-t.ensures in
     let w = walks_on c.requires l.q (totals_on c.requires l.invariant.2).0 l.invariant.0 in
@@ -37,7 +37,7 @@ loop-i-preserved c =
     ((totals_on w r).1, omega arith, total_same _ t refl refl (sym (from_none c.from_note-t.result.default l.n 67108864 e.2)))
 
 pub returns : goal.returns
-returns c = 
+returns c =
     let g = c.args in
     let l = c.loop-i in
     let e : l.i ≡ g.k = omega (arith, l.invariant.1, c.loop-i-test.false) in

@@ -10,7 +10,7 @@ pub bounds-notes-at : goal.bounds-notes-at
 bounds-notes-at c = omega (arith, c.requires.0.ready.planned.ends.long, c.requires.1)
 
 pub returns-then-w-eq0 : goal.returns-then-w-eq0
-returns-then-w-eq0 c = 
+returns-then-w-eq0 c =
     let g = c.args in
     let p = c.requires in
     let e = c.from_note.ensures in

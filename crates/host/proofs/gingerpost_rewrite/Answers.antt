@@ -10,7 +10,7 @@ use Rattle.host.proofs.gingerpost_rewrite.Goals as goal
 
 pub returns-then-is_bad_length : goal.returns-then-is_bad_length
 unfolding rewrite_bytes rewrite_bytes_lent answer_in
-returns-then-is_bad_length c = 
+returns-then-is_bad_length c =
     let bs = c.args.bytes.now in
     let o = c.args.out.now in
     let e = answer_bad bs (module_words (words_of_bytes bs)) o (sym c.is_bad_length.ensures ∙ c.if-is_bad_length.true) in
@@ -21,23 +21,23 @@ returns-then-is_bad_length c =
     }
 
 pub read-v-requires : goal.read-v-requires
-read-v-requires c = 
+read-v-requires c =
     let good = good_length (length c.args.bytes.now) (sym c.is_bad_length.ensures ∙ c.if-is_bad_length.false) in
     (good.0, omega arith)
 
 pub returns-then-v-ne0 : goal.returns-then-v-ne0
-returns-then-v-ne0 c = 
+returns-then-v-ne0 c =
     let good = good_length (length c.args.bytes.now) (sym c.is_bad_length.ensures ∙ c.if-is_bad_length.false) in
     let r = rewriting_refused c.args.bytes.now c.args.out.now c.read-v.result good.0 c.read-v.ensures.1 c.if-v-ne0.true in
     record { number = r.0; lent = r.1.0; demand = r.1.1 }
 
 pub rewrite_by-requires : goal.rewrite_by-requires
-rewrite_by-requires c = 
+rewrite_by-requires c =
     let good = good_length (length c.args.bytes.now) (sym c.is_bad_length.ensures ∙ c.if-is_bad_length.false) in
     (good.0, omega arith, omega arith, omega arith, omega arith, c.read-v.ensures.0, sym c.read-v.ensures.1 ∙ c.if-v-ne0.false)
 
 pub long_call-requires : goal.long_call-requires
-long_call-requires c = 
+long_call-requires c =
     let good = good_length (length c.args.bytes.now) (sym c.is_bad_length.ensures ∙ c.if-is_bad_length.false) in
     (good.0, omega arith)
 

@@ -10,7 +10,7 @@ use Rattle.host.proofs.number.Goals as goal
 
 pub returns : goal.returns
 unfolding number_of numbers_of
-returns c = 
+returns c =
     let a = c.args.a in
     ap (λ n. bit_or n (a.fresh * 2 ^ 36 % 2 ^ 64)) (joined a.code a.written 8 64 (omega (arith, c.requires.code)) (omega (arith, c.requires.written)))
     ∙ joined (a.code + a.written * 2 ^ 8) a.fresh 36 64 (omega (arith, c.requires.code, c.requires.written)) (omega (arith, c.requires.fresh))

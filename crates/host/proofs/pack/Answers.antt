@@ -1,8 +1,7 @@
 -- `pack`: behind i turns the first i words are there.
 use Rattle.host.specs.BytesLaws.{word_at, pack_step, pack_all}
-use lib.ListN.{length, length-set}
+use lib.ListN.{length-set}
 use native.Mathlib.Omega.{arith}
-use Prim.Native.Nat.{◌-◌}
 use mathlib.Core.Path.{refl}
 use Rattle.host.proofs.pack.Goals as goal
 

@@ -1,5 +1,5 @@
 -- `report_by`: as `rewrite_by`, the words stored being those of the report in the order in which they were written.
-use Rattle.host.specs.EntryLaws.{Called, refused_number, refused_lent, called_8, called_answer, called_fields, called_within, called_length, called_room, called_lent, report_order, report_called}
+use Rattle.host.specs.EntryLaws.{refused_number, refused_lent, called_8, called_answer, called_fields, called_within, called_length, called_room, called_lent, report_order, report_called}
 use Rattle.host.specs.Entry.{number_of, report_bytes}
 use Rattle.host.specs.Bytes.{words_of_bytes, bytes_of_words}
 use Rattle.rewriting.specs.Answer.{report_words, Reordered}
@@ -9,7 +9,7 @@ use Rattle.rewriter.specs.Numbers.{numbers_of}
 use borrow.Author.Tests.{ltb-true, ltb-false}
 use lib.ListN.{length}
 use native.Mathlib.Omega.{arith}
-use Prim.Native.Nat.{◌/◌, ◌≤◌}
+use Prim.Native.Nat.{◌/◌}
 use mathlib.Core.Path.{refl, sym, ap, ◌∙◌}
 use Rattle.host.proofs.report_by.Goals as goal
 
@@ -21,7 +21,7 @@ report_by-r-requires c = (ap refusal c.requires.5 ∙ c.requires.6, omega (arith
 
 pub returns-then-is_short : goal.returns-then-is_short
 unfolding report_bytes Reordered numbers_of
-returns-then-is_short c = 
+returns-then-is_short c =
     let bs = c.args.bytes.now in
     let o = c.args.out.now in
     let e = called_8 (report_called c.args.bytes.now _ c.args.written.now c.report_by-r.new.out (numbers_of c.report_by-r.result) c.requires.5 c.report_by-r.ensures.lent c.requires.0 (omega (arith, c.requires.1, c.requires.3)) c.requires.4 c.report_by-r.auto.out c.report_by-r.ensures.numbers) o (ltb-true (length o / 4) c.report_by-r.result.written (sym c.is_short.ensures ∙ c.if-is_short.true)) in
@@ -47,7 +47,7 @@ number-requires c = called_fields (report_called c.args.bytes.now _ c.args.writt
 
 pub returns : goal.returns
 unfolding report_bytes numbers_of
-returns c = 
+returns c =
     let k = report_called c.args.bytes.now _ c.args.written.now c.report_by-r.new.out (numbers_of c.report_by-r.result) c.requires.5 c.report_by-r.ensures.lent c.requires.0 (omega (arith, c.requires.1, c.requires.3)) c.requires.4 c.report_by-r.auto.out c.report_by-r.ensures.numbers in
     let g = c.args in
     let h = ltb-false (length c.args.out.now / 4) c.report_by-r.result.written (sym c.is_short.ensures ∙ c.if-is_short.false) in

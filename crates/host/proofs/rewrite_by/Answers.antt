@@ -1,5 +1,5 @@
 -- `rewrite_by`: behind the call, `Called` has all that the rest follows from.
-use Rattle.host.specs.EntryLaws.{Called, refused_number, refused_lent, called_8, called_answer, called_fields, called_within, called_length, called_room, called_lent, called_demand, rewriting_called}
+use Rattle.host.specs.EntryLaws.{refused_number, refused_lent, called_8, called_answer, called_fields, called_within, called_length, called_room, called_lent, called_demand, rewriting_called}
 use Rattle.host.specs.Entry.{number_of, answer_in, rewrite_bytes, rewrite_bytes_lent}
 use Rattle.host.specs.Bytes.{words_of_bytes, bytes_of_words}
 use Rattle.rewriting.specs.DemandWords.{DemandWords}
@@ -10,7 +10,7 @@ use Rattle.rewriter.specs.Numbers.{numbers_of}
 use borrow.Author.Tests.{ltb-true, ltb-false}
 use lib.ListN.{length, take}
 use native.Mathlib.Omega.{arith}
-use Prim.Native.Nat.{◌/◌, ◌≤◌}
+use Prim.Native.Nat.{◌/◌}
 use mathlib.Core.Path.{sym, ap, subst, ◌∙◌}
 use Rattle.host.proofs.rewrite_by.Goals as goal
 
@@ -22,7 +22,7 @@ rewrite_by-r-requires c = (ap refusal c.requires.5 ∙ c.requires.6, omega (arit
 
 pub returns-then-is_short : goal.returns-then-is_short
 unfolding rewrite_bytes rewrite_bytes_lent numbers_of answer_in
-returns-then-is_short c = 
+returns-then-is_short c =
     let o = c.args.out.now in
     let e = called_8 (rewriting_called c.args.bytes.now _ c.args.written.now c.rewrite_by-r.new.out (numbers_of c.rewrite_by-r.result) c.requires.5 c.requires.0 (omega (arith, c.requires.1, c.requires.3)) c.requires.4 c.rewrite_by-r.auto.out c.rewrite_by-r.ensures.numbers c.rewrite_by-r.ensures.lent) o (ltb-true (length o / 4) c.rewrite_by-r.result.written (sym c.is_short.ensures ∙ c.if-is_short.true)) in
     record {
@@ -48,7 +48,7 @@ number-requires c = called_fields (rewriting_called c.args.bytes.now _ c.args.wr
 
 pub returns : goal.returns
 unfolding rewrite_bytes rewrite_bytes_lent numbers_of
-returns c = 
+returns c =
     let k = rewriting_called c.args.bytes.now _ c.args.written.now c.rewrite_by-r.new.out (numbers_of c.rewrite_by-r.result) c.requires.5 c.requires.0 (omega (arith, c.requires.1, c.requires.3)) c.requires.4 c.rewrite_by-r.auto.out c.rewrite_by-r.ensures.numbers c.rewrite_by-r.ensures.lent in
     let o = c.args.out.now in
     let h = ltb-false (length c.args.out.now / 4) c.rewrite_by-r.result.written (sym c.is_short.ensures ∙ c.if-is_short.false) in

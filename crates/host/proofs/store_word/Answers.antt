@@ -28,6 +28,6 @@ pub bounds-out-at-4 : goal.bounds-out-at-4
 bounds-out-at-4 c = simp length-set (omega arith)
 
 pub returns : goal.returns
-returns c = 
+returns c =
     let w = c.args.w in
     stored_word c.args.out.now c.args.at w _ _ _ _ (and_mask w 8) (and_mask (w / 2 ^ 8) 8) (and_mask (w / 2 ^ 16) 8) (and_mask (w / 2 ^ 24) 8)

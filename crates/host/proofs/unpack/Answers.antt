@@ -3,9 +3,7 @@ use Rattle.host.specs.BytesLaws.{unpack_step}
 use Rattle.host.specs.Bytes.{bytes_of_words, Small}
 use Rattle.output.specs.Overlay.{overlay}
 use lib.Seq.{take_all}
-use lib.ListN.{take}
 use native.Mathlib.Omega.{arith}
-use Prim.Native.Nat.{◌-◌}
 use mathlib.Core.Path.{refl, ap, ◌∙◌}
 use Rattle.host.proofs.unpack.Goals as goal
 
@@ -21,7 +19,7 @@ shape_of-out c = c.loop-i.invariant.1
 
 pub returns : goal.returns
 unfolding Small
-returns c = 
+returns c =
     let ws = c.args.ws.now in
     let n = c.loop-i.i in
     record { bytes = c.loop-i.invariant.2 ∙ ap (λ l. overlay c.args.out.now 0 (bytes_of_words l)) (take_all n ws c.loop-i-test.false); small = λ i h. omega (arith, c.shared_slice_known-1.given i) }

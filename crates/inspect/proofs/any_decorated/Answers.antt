@@ -1,6 +1,5 @@
 -- `any_decorated`: none of the parameters passed has decorators.
 use mathlib.Core.Path.{sym, ◌∙◌}
-use Prim.Native.Nat.{◌-◌}
 use borrow.Author.Rules.{rules}
 use Rattle.records.specs.Ends.{ends_at}
 use Rattle.inspect.specs.Class.{has_decorators}

@@ -1,6 +1,5 @@
 -- `call_count`: n of the elements passed are decorated members.
 use mathlib.Core.Path.{sym, ◌∙◌}
-use Prim.Native.Nat.{◌-◌}
 use native.Mathlib.Omega.{arith}
 use borrow.Author.Rules.{rules}
 use Rattle.rewriting.specs.Parts.{is_decorated_member}
@@ -26,8 +25,8 @@ behind-q-requires c = search (rules, ends_at)
 pub loop-i-preserved : goal.loop-i-preserved
 loop-i-preserved c =
     elim c.if-member_decorated.branch [
-      then-member_decorated w ↦ counted_hit _ _ _ _ c.loop-i.invariant c.loop-i-test.true c.if-ws-q.false c.behind-q.ensures (sym c.member_decorated.ensures ∙ w.if-member_decorated.true) w.n-is
-    | else-member_decorated w ↦ counted_miss _ _ _ _ c.loop-i.invariant c.loop-i-test.true c.if-ws-q.false c.behind-q.ensures (sym c.member_decorated.ensures ∙ w.if-member_decorated.false) w.n-is
+      | then-member_decorated w ↦ counted_hit _ _ _ _ c.loop-i.invariant c.loop-i-test.true c.if-ws-q.false c.behind-q.ensures (sym c.member_decorated.ensures ∙ w.if-member_decorated.true) w.n-is
+      | else-member_decorated w ↦ counted_miss _ _ _ _ c.loop-i.invariant c.loop-i-test.true c.if-ws-q.false c.behind-q.ensures (sym c.member_decorated.ensures ∙ w.if-member_decorated.false) w.n-is
     ]
 
 pub returns : goal.returns

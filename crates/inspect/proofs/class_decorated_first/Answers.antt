@@ -10,7 +10,7 @@ use Rattle.inspect.proofs.class_decorated_first.Goals as goal
 
 pub returns-then-decorated : goal.returns-then-decorated
 unfolding is_decorated_class
-returns-then-decorated c = 
+returns-then-decorated c =
     let d : not (is_empty (decorators (kids_at c.args.ws.now c.args.at))) ≡ true = sym c.decorated.ensures ∙ c.if-decorated.true in
     sym (rw d)
 
@@ -19,6 +19,6 @@ overflow_add-b c = omega (arith, c.body-b.ensures.1.most)
 
 pub returns : goal.returns
 unfolding is_decorated_class
-returns c = 
+returns c =
     let d : not (is_empty (decorators (kids_at c.args.ws.now c.args.at))) ≡ false = sym c.decorated.ensures ∙ c.if-decorated.false in
     c.first_constructor_decorated.ensures ∙ ap (λ (f : Trees). not (is_empty (first_constructor f))) (kids_row c.args.ws.now c.body-b.result _ c.children_at.ensures.0 ∙ c.body-b.ensures.0) ∙ sym (rw d)

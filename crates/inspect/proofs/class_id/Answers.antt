@@ -11,14 +11,14 @@ use Rattle.inspect.proofs.class_id.Goals as goal
 
 pub returns-then-kind_of-ne27 : goal.returns-then-kind_of-ne27
 unfolding label_at read_at
-returns-then-kind_of-ne27 c = 
+returns-then-kind_of-ne27 c =
     let a = c.args in
     let s = c.second_word-w.ensures in
     (opt_none ∙ sym (id_other a.ws.now a.at s.place s.second (λ e. c.if-kind_of-ne27.true (c.kind_of.ensures ∙ ap kind_of s.word ∙ e))), omega arith)
 
 pub returns : goal.returns
 unfolding label_at read_at
-returns c = 
+returns c =
     let a = c.args in
     let w = c.second_word-w.result in
     let s = c.second_word-w.ensures in

@@ -10,7 +10,7 @@ pub overflow_add-p : goal.overflow_add-p
 overflow_add-p c = omega (arith, c.parameters-p.ensures.1.most)
 
 pub returns : goal.returns
-returns c = 
+returns c =
     let a = c.args in
     let p = c.parameters-p.result in
     c.any_decorated.ensures ∙ ap (any_row has_decorators) (kids_row a.ws.now p _ c.children_at.ensures.0 ∙ c.parameters-p.ensures.0) ∙ sym (parameters_any 0 _)

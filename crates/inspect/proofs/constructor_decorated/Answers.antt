@@ -1,6 +1,5 @@
 -- `constructor_decorated`: none of the elements passed is such a constructor.
 use mathlib.Core.Path.{sym, ◌∙◌}
-use Prim.Native.Nat.{◌-◌}
 use borrow.Author.Rules.{rules}
 use Rattle.records.specs.Ends.{ends_at}
 use Rattle.inspect.specs.Class.{constructors_any, is_decorated_constructor}

@@ -8,7 +8,7 @@ use Rattle.inspect.specs.Child.{empty_none, empty_room}
 use Rattle.inspect.proofs.decorated.Goals as goal
 
 pub returns-then-children_at-eq0 : goal.returns-then-children_at-eq0
-returns-then-children_at-eq0 c = 
+returns-then-children_at-eq0 c =
     let a = c.args in
     let d = c.decorators-d.result in
     sym (sym (ap (λ (f : Trees). not (is_empty f)) c.decorators-d.ensures.kids) ∙ empty_none a.ws.now d (sym c.children_at.ensures.0 ∙ c.if-children_at-eq0.true))
@@ -17,7 +17,7 @@ pub overflow_add-result : goal.overflow_add-result
 overflow_add-result c = omega (arith, c.decorators-d.ensures.most)
 
 pub returns : goal.returns
-returns c = 
+returns c =
     let a = c.args in
     let d = c.decorators-d.result in
     sym (sym (ap (λ (f : Trees). not (is_empty f)) c.decorators-d.ensures.kids) ∙ empty_room a.ws.now d (λ e. c.if-children_at-eq0.false (c.children_at.ensures.0 ∙ e)))

@@ -1,6 +1,5 @@
 -- `find`: the invariant says that no record passed is of the kind.
 use mathlib.Core.Path.{sym, ◌∙◌}
-use Prim.Native.Nat.{◌-◌}
 use borrow.Author.Tests.{ne_eqb}
 use borrow.Author.Rules.{rules}
 use Rattle.records.specs.Label.{is}
@@ -13,12 +12,12 @@ pub loop-i-init : goal.loop-i-init
 loop-i-init c = passed_start (of_kind c.args.kind) c.args.ws.now c.args.at c.args.k
 
 pub returns-then-ws-q : goal.returns-then-ws-q
-returns-then-ws-q c = 
+returns-then-ws-q c =
     let a = c.args in
     found_none a.ws.now a.kind a.at a.k (any_past _ _ _ _ c.loop-i.invariant c.if-ws-q.true)
 
 pub returns-then-kind_at-kind : goal.returns-then-kind_at-kind
-returns-then-kind_at-kind c = 
+returns-then-kind_at-kind c =
     let a = c.args in
     found_here a.ws.now a.kind a.at a.k c.loop-i.invariant c.loop-i-test.true c.if-ws-q.false (sym c.kind_at.ensures ∙ c.if-kind_at-kind.true)
 
@@ -30,6 +29,6 @@ unfolding of_kind is
 loop-i-preserved c = passed_next _ _ _ _ c.loop-i.invariant c.loop-i-test.true c.if-ws-q.false c.behind-q.ensures (ne_eqb _ _ (λ e. c.if-kind_at-kind.false (c.kind_at.ensures ∙ e)))
 
 pub returns : goal.returns
-returns c = 
+returns c =
     let a = c.args in
     found_none a.ws.now a.kind a.at a.k (any_all _ _ _ _ c.loop-i.invariant c.loop-i-test.false)

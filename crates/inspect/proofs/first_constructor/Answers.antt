@@ -1,6 +1,5 @@
 -- `first_constructor`: none of the elements passed is a constructor.
 use mathlib.Core.Path.{sym, ◌∙◌}
-use Prim.Native.Nat.{◌-◌}
 use borrow.Author.Rules.{rules}
 use Rattle.records.specs.Ends.{ends_at}
 use Rattle.inspect.specs.Class.{constructor_at, constructs}

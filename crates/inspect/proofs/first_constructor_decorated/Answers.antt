@@ -17,7 +17,7 @@ pub behind-requires : goal.behind-requires
 behind-requires c = search (rules, ends_at)
 
 pub returns : goal.returns
-returns c = 
+returns c =
     let a = c.args in
     c.class_method_parameter_is_decorated.ensures
     ∙ ap (λ (n : ℕ). not (is_empty (of_parameters 0 (parameters_of (kids_at a.ws.now n))))) c.behind.ensures

@@ -1,6 +1,5 @@
 -- `has_static`: none of the elements passed is static.
 use mathlib.Core.Path.{sym, ◌∙◌}
-use Prim.Native.Nat.{◌-◌}
 use borrow.Author.Rules.{rules}
 use Rattle.records.specs.Forest.{end}
 use Rattle.records.specs.Place.{kids_at}

@@ -15,6 +15,6 @@ returns-then-kind_of-ne30 c = sym (rw (ne_eqb _ _ (λ e. c.if-kind_of-ne30.true 
 
 pub returns : goal.returns
 unfolding is_constructor is bit bit1 read_at
-returns c = 
+returns c =
     let k : eqb (kind_of c.args.w) 30 ≡ true = eq-eqb _ _ (sym c.kind_of.ensures ∙ c.if-kind_of-ne30.false) in
     ap (λ (p : ℕ). eqb (p / 2 % 2) 1) c.payload_of.ensures ∙ sym (rw k)

@@ -8,12 +8,12 @@ use Rattle.inspect.proofs.is_decorated_constructor.Goals as goal
 
 pub returns-then-is_constructor : goal.returns-then-is_constructor
 unfolding is_decorated_constructor
-returns-then-is_constructor c = 
+returns-then-is_constructor c =
     let t : is_constructor (label_at c.args.ws.now c.args.at) ≡ true = sym (c.is_constructor.ensures ∙ constructor_at c.args.ws.now c.args.at c.word_at.result c.word_at.ensures) ∙ c.if-is_constructor.true in
     c.class_method_parameter_is_decorated.ensures ∙ sym (rw t)
 
 pub returns : goal.returns
 unfolding is_decorated_constructor
-returns c = 
+returns c =
     let t : is_constructor (label_at c.args.ws.now c.args.at) ≡ false = sym (c.is_constructor.ensures ∙ constructor_at c.args.ws.now c.args.at c.word_at.result c.word_at.ensures) ∙ c.if-is_constructor.false in
     sym (rw t)

@@ -15,14 +15,14 @@ returns-then-k-eq33 c = sym (rw (eq-eqb _ _ (sym c.kind_of-k.ensures ∙ c.if-k-
 
 pub returns-then-k-ne31 : goal.returns-then-k-ne31
 unfolding is_static is read_at
-returns-then-k-ne31 c = 
+returns-then-k-ne31 c =
     let a : eqb (kind_of c.args.w) 33 ≡ false = ne_eqb _ _ (λ e. c.if-k-eq33.false (c.kind_of-k.ensures ∙ e)) in
     let b : eqb (kind_of c.args.w) 31 ≡ false = ne_eqb _ _ (λ e. c.if-k-ne31.true (c.kind_of-k.ensures ∙ e)) in
     sym (rw (a, b))
 
 pub returns : goal.returns
 unfolding is_static is bit bit0 read_at
-returns c = 
+returns c =
     let a : eqb (kind_of c.args.w) 33 ≡ false = ne_eqb _ _ (λ e. c.if-k-eq33.false (c.kind_of-k.ensures ∙ e)) in
     let b : eqb (kind_of c.args.w) 31 ≡ true = eq-eqb _ _ (sym c.kind_of-k.ensures ∙ c.if-k-ne31.false) in
     ap (λ (p : ℕ). eqb (p % 2) 1) c.payload_of.ensures ∙ sym (rw (a, b))

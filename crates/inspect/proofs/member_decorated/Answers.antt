@@ -12,7 +12,7 @@ pub returns-then-k-eq32 : goal.returns-then-k-eq32
 returns-then-k-eq32 c = c.decorated-then-k-eq32.ensures ∙ sym (member_32 (label_at c.args.ws.now c.args.at) (kids_at c.args.ws.now c.args.at) (sym c.kind_at-k.ensures ∙ c.if-k-eq32.true))
 
 pub returns-then-k-ne30 : goal.returns-then-k-ne30
-returns-then-k-ne30 c = 
+returns-then-k-ne30 c =
     let k = c.kind_at-k.ensures in
     sym (member_other (label_at c.args.ws.now c.args.at) (kids_at c.args.ws.now c.args.at) (λ e. c.if-k-ne30.true (k ∙ e)) (λ e. c.if-k-eq31.false (k ∙ e)) (λ e. c.if-k-eq32.false (k ∙ e)))
 

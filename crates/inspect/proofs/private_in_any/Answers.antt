@@ -1,6 +1,5 @@
 -- `private_in_any`: none of the parameters passed has one.
 use mathlib.Core.Path.{sym, ◌∙◌}
-use Prim.Native.Nat.{◌-◌}
 use borrow.Author.Rules.{rules}
 use Rattle.records.specs.Ends.{ends_at}
 use Rattle.inspect.specs.Private.{private_in}

@@ -18,6 +18,6 @@ pub returns-then-k-eq32 : goal.returns-then-k-eq32
 returns-then-k-eq32 c = c.private_in-then-k-eq32.ensures ∙ sym (private_32 (label_at c.args.ws.now c.args.at) (kids_at c.args.ws.now c.args.at) (sym c.kind_at-k.ensures ∙ c.if-k-eq32.true))
 
 pub returns : goal.returns
-returns c = 
+returns c =
     let k = c.kind_at-k.ensures in
     sym (private_other (label_at c.args.ws.now c.args.at) (kids_at c.args.ws.now c.args.at) (λ e. c.if-k-eq30.false (k ∙ e)) (λ e. c.if-k-eq31.false (k ∙ e)) (λ e. c.if-k-eq32.false (k ∙ e)))

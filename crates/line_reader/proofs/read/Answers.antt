@@ -1,6 +1,5 @@
 -- `read`: the bytes up to `i` have been read. The measure is how many are left.
 use mathlib.Core.Path.{ap, ◌∙◌}
-use Prim.Native.Nat.{◌-◌}
 use native.Mathlib.Omega.{arith}
 use lib.ListN.{length}
 use Rattle.line_reader.specs.Text.{follows_none, follows_more, follows_all, ready_after}

@@ -1,4 +1,3 @@
-use Prim.Native.Nat.{◌-◌}
 use Rattle.line_writer.proofs.+put_number.Given as goal
 
 abbrev pub decreases-put_number : goal.decreases-put_number

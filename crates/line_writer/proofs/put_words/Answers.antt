@@ -1,8 +1,7 @@
 -- `put_words`: the lines of the words up to `i` are written. The measure is how many words are left.
 use mathlib.Core.Path.{ap, ◌∙◌}
-use Prim.Native.Nat.{◌-◌}
 use native.Mathlib.Omega.{arith}
-use lib.ListN.{length, take}
+use lib.ListN.{length}
 use lib.Seq.{take_all}
 use Rattle.line_writer.specs.Decimal.{lines_of, lines_more, length_lines_take}
 use Rattle.output.specs.Overlay.{wrote_none, wrote_as, wrote_then, length_overlay}

@@ -1,6 +1,5 @@
 -- `any_marked`: none of the elements passed is a decorated member.
 use mathlib.Core.Path.{sym, ◌∙◌}
-use Prim.Native.Nat.{◌-◌}
 use native.Mathlib.Omega.{arith}
 use borrow.Author.Tests.{eq-eqb, ne_eqb}
 use Rattle.records.specs.Place.{end_high}

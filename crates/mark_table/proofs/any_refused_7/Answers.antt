@@ -8,11 +8,11 @@ pub is_refused_7-requires : goal.is_refused_7-requires
 is_refused_7-requires c = (c.requires.0, c.requires.1, c.requires.2, c.requires.3)
 
 pub returns-then-is_refused_7 : goal.returns-then-is_refused_7
-returns-then-is_refused_7 c = 
+returns-then-is_refused_7 c =
     let t = sym c.is_refused_7.ensures ∙ c.if-is_refused_7.true in
     sym (record_open is_refused7 c.args.ws.now c.args.i c.requires.0 ∙ rw t)
 
 pub returns : goal.returns
-returns c = 
+returns c =
     let t = sym c.is_refused_7.ensures ∙ c.if-is_refused_7.false in
     c.requires.4 ∙ sym (record_open is_refused7 c.args.ws.now c.args.i c.requires.0 ∙ rw t)

@@ -12,13 +12,13 @@ pub returns-then-payload_at-ne0 : goal.returns-then-payload_at-ne0
 returns-then-payload_at-ne0 c = sym (class_own c.args.ws.now c.requires.2 c.args.i c.requires.0 c.requires.3 (λ e. c.if-payload_at-ne0.true (c.payload_at.ensures.0 ∙ e)))
 
 pub class_body-b-requires : goal.class_body-b-requires
-class_body-b-requires c = 
+class_body-b-requires c =
     let g = c.args in
     let p = c.requires in
     body_asks g.ws.now p.2 g.i p.0 p.3 p.1
 
 pub overflow_add-b : goal.overflow_add-b
-overflow_add-b c = 
+overflow_add-b c =
     let g = c.args in
     let p = c.requires in
     omega (arith, body_inside g.ws.now p.2 g.i p.0 p.3 c.class_body-b.ensures)

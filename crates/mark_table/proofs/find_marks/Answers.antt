@@ -29,7 +29,7 @@ pub any_test-test-requires : goal.any_test-test-requires
 any_test-test-requires c = (done_down c.loop-i.invariant c.loop-i-test.true).seen
 
 pub any_refused_7-refused-requires : goal.any_refused_7-refused-requires
-any_refused_7-refused-requires c = 
+any_refused_7-refused-requires c =
     let d = done_down c.loop-i.invariant c.loop-i-test.true in
     (omega (arith, c.loop-i.invariant.low, c.loop-i-test.true), c.loop-i.invariant.ends, c.requires.1, marks_class _ _ _ d.right, d.seven)
 

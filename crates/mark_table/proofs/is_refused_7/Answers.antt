@@ -18,7 +18,7 @@ bounds-notes-i c = omega (arith, class_inside c.args.ws.now c.requires.2 c.args.
 
 pub returns-then-notes-i-eq0 : goal.returns-then-notes-i-eq0
 unfolding ClassMark
-returns-then-notes-i-eq0 c = 
+returns-then-notes-i-eq0 c =
     let ws = c.args.ws.now in
     let p = c.requires in
     let k = sym c.kind_at.ensures ∙ c.if-kind_at-ne4.false in
@@ -30,7 +30,7 @@ class_decorated_first-requires c = c.requires.1
 
 pub returns : goal.returns
 unfolding ClassMark
-returns c = 
+returns c =
     let ws = c.args.ws.now in
     let p = c.requires in
     let k = sym c.kind_at.ensures ∙ c.if-kind_at-ne4.false in

@@ -23,7 +23,7 @@ pub overflow_add-p : goal.overflow_add-p
 overflow_add-p c = omega (arith, c.behind-p.ensures, (third_place c.args.ws.now c.requires.2 c.args.i c.requires.0 c.requires.3).0)
 
 pub returns : goal.returns
-returns c = 
+returns c =
     let p = c.behind-p.ensures in
     let t = third_place c.args.ws.now c.requires.2 c.args.i c.requires.0 c.requires.3 in
     let m = method_parameters_lem c.args.ws.now c.requires.2 c.args.i c.requires.0 c.requires.3 (sym (constructor_at c.args.ws.now c.args.i _ c.word_at.ensures) ∙ sym c.is_constructor.ensures ∙ c.if-is_constructor.false) (sym c.payload_at.ensures.0 ∙ c.if-payload_at-ne0.false) in

@@ -15,7 +15,7 @@ bounds-notes-i c = omega (arith, class_inside c.args.ws.now c.requires.2 c.args.
 
 pub returns-then-notes-i-ne1 : goal.returns-then-notes-i-ne1
 unfolding ClassMark
-returns-then-notes-i-ne1 c = 
+returns-then-notes-i-ne1 c =
     let ws = c.args.ws.now in
     let p = c.requires in
     sym (not_decorated ws c.args.i (sym (p.3 (class_inside ws p.2 c.args.i p.0 p.4) (class_kind ws p.2 c.args.i p.0 p.4)) ∙ ne_eqb _ 1 c.if-notes-i-ne1.true))
@@ -28,7 +28,7 @@ returns-then-c-eq-NONE c = sym (nameless c.args.ws.now c.args.i (sym c.class_id-
 
 pub returns : goal.returns
 unfolding ClassMark
-returns c = 
+returns c =
     let ws = c.args.ws.now in
     let i = c.args.i in
     let p = c.requires in

@@ -20,7 +20,7 @@ pub overflow_cast-q : goal.overflow_cast-q
 overflow_cast-q c = omega (arith, c.requires.right c.loop-i.q c.loop-i.invariant.0 (omega arith), end_high c.args.ws.now c.loop-i.q 1)
 
 pub loop-i-preserved : goal.loop-i-preserved
-loop-i-preserved c = 
+loop-i-preserved c =
     let e = c.requires.right c.loop-i.q c.loop-i.invariant.0 (omega arith) in
     let l = end_low c.args.ws.now c.loop-i.q 1 in
     let s = end_step c.args.ws.now c.loop-i.q (c.args.k - c.loop-i.i) (omega arith) in
@@ -29,6 +29,6 @@ loop-i-preserved c =
     rw e (low, ap (end_of c.args.ws.now _) (sym n) ∙ sym s ∙ c.loop-i.invariant.1)
 
 pub returns : goal.returns
-returns c = 
+returns c =
     let n : c.args.k - c.loop-i.i ≡ 0 = omega arith in
     sym (sym c.loop-i.invariant.1 ∙ ap (end_of c.args.ws.now c.loop-i.q) n ∙ end_none c.args.ws.now c.loop-i.q)

@@ -40,7 +40,7 @@ pub loop-i-smaller : goal.loop-i-smaller
 loop-i-smaller c = omega (arith, c.loop-i-test.true)
 
 pub loop-i-preserved : goal.loop-i-preserved
-loop-i-preserved c = 
+loop-i-preserved c =
     let low = c.loop-i.invariant.0 in
     let inside : c.loop-i.i - 1 < length c.args.ws.now = omega (arith, low, c.loop-i-test.true) in
     let e = c.behind-e.ensures ∙ ap (end_of c.args.ws.now (c.loop-i.i - 1 + 1)) (c.child_count-n.ensures ∙ sym (arity_at_children c.args.ws.now (c.loop-i.i - 1))) ∙ sym (end_one c.args.ws.now (c.loop-i.i - 1) inside) in

@@ -1,7 +1,7 @@
 use Rattle.records.specs.Ends.{Ends}
 use mathlib.Core.Path.{◌≡◌}
 use lib.ListN.{length}
-use Prim.Native.Nat.{◌-◌, ◌≤◌}
+use Prim.Native.Nat.{◌≤◌}
 use Rattle.records.proofs.find_ends.Given as goal
 
 abbrev pub invariant-loop-i : goal.invariant-loop-i

@@ -21,7 +21,7 @@ pub report_class_expression-shape_of-out : goal.report_class_expression-shape_of
 report_class_expression-shape_of-out t c = c.report_records-r.auto.out
 
 pub report_class_expression-returns : goal.report_class_expression-returns
-report_class_expression-returns t c = 
+report_class_expression-returns t c =
     let g = c.args in
     let p = c.requires in
     report_expression p.0 p.1 g.a g.s.default (record { live = false; id = 67108864 }) p.2 refl opt_none c.report_records-r.ensures
@@ -42,14 +42,14 @@ pub report_class_statement-report_records-r-requires : goal.report_class_stateme
 report_class_statement-report_records-r-requires t c = (omega (arith, c.requires.1), asks_next c.requires.0 c.requires.1)
 
 pub report_class_statement-put_class_symbols-p-requires : goal.report_class_statement-put_class_symbols-p-requires
-report_class_statement-put_class_symbols-p-requires t c = 
+report_class_statement-put_class_symbols-p-requires t c =
     let p = c.requires in
     let r = room_behind p.0 p.1 c.report_records-r.ensures in
     let g = c.args in
     (p.0.ready.planned, class_inside g.ws.now p.0.ready.whole g.at p.1 p.2, class_kind g.ws.now p.0.ready.whole g.at p.1 p.2, omega (arith, p.0.ready.few, p.1), omega (arith, r.0), omega (arith, r.1))
 
 pub report_class_statement-class_symbols-requires : goal.report_class_statement-class_symbols-requires
-report_class_statement-class_symbols-requires t c = 
+report_class_statement-class_symbols-requires t c =
     let p = c.requires in
     let r = room_behind p.0 p.1 c.report_records-r.ensures in
     let g = c.args in
@@ -59,7 +59,7 @@ pub report_class_statement-shape_of-out-then-live : goal.report_class_statement-
 report_class_statement-shape_of-out-then-live t c = c.put_class_symbols-p.auto.out ∙ c.report_records-r.auto.out
 
 pub report_class_statement-returns-then-live : goal.report_class_statement-returns-then-live
-report_class_statement-returns-then-live t c = 
+report_class_statement-returns-then-live t c =
     let g = c.args in
     let p = c.requires in
     let i = c.class_id-id.ensures in
@@ -70,7 +70,7 @@ pub report_class_statement-shape_of-out : goal.report_class_statement-shape_of-o
 report_class_statement-shape_of-out t c = c.report_records-r.auto.out
 
 pub report_class_statement-returns : goal.report_class_statement-returns
-report_class_statement-returns t c = 
+report_class_statement-returns t c =
     let g = c.args in
     let p = c.requires in
     let i = c.class_id-id.ensures in
@@ -87,7 +87,7 @@ pub report_element-shape_of-out-then-not-a : goal.report_element-shape_of-out-th
 report_element-shape_of-out-then-not-a t c = c.report_records-r.auto.out
 
 pub report_element-returns-then-not-a : goal.report_element-returns-then-not-a
-report_element-returns-then-not-a t c = 
+report_element-returns-then-not-a t c =
     let g = c.args in
     let p = c.requires in
     report_dropped p.0 p.1 g.a g.s.default p.2 (not-true _ c.if-not-a.true) (reports_count c.children_at.ensures.0 c.report_records-r.ensures)
@@ -102,31 +102,31 @@ pub report_element-shape_of-out-then-notes-at-ne1 : goal.report_element-shape_of
 report_element-shape_of-out-then-notes-at-ne1 t c = c.report_records-r.auto.out
 
 pub report_element-returns-then-notes-at-ne1 : goal.report_element-returns-then-notes-at-ne1
-report_element-returns-then-notes-at-ne1 t c = 
+report_element-returns-then-notes-at-ne1 t c =
     let g = c.args in
     let p = c.requires in
     report_plain p.0 p.1 g.a g.s.default p.2 (sym (element_mark g.at p.0.ready.planned p.1 p.2) ∙ ne_eqb _ 1 c.if-notes-at-ne1.true) (reports_count c.children_at.ensures.0 c.report_records-r.ensures)
 
 pub report_element-class_symbol-t-requires : goal.report_element-class_symbol-t-requires
-report_element-class_symbol-t-requires t c = 
+report_element-class_symbol-t-requires t c =
     let p = c.requires in
     let r = room_behind p.0 p.1 c.report_records-r.ensures in
     omega (arith, r.0)
 
 pub report_element-put_class_symbol-p-requires : goal.report_element-put_class_symbol-p-requires
-report_element-put_class_symbol-p-requires t c = 
+report_element-put_class_symbol-p-requires t c =
     let p = c.requires in
     let r = room_behind p.0 p.1 c.report_records-r.ensures in
     (omega (arith, r.0), omega (arith, r.1))
 
 pub report_element-key_symbol-v-requires : goal.report_element-key_symbol-v-requires
-report_element-key_symbol-v-requires t c = 
+report_element-key_symbol-v-requires t c =
     let p = c.requires in
     let r = room_behind p.0 p.1 c.report_records-r.ensures in
     (omega (arith, r.0, c.class_symbol-t.ensures.1), p.0.ready.planned.ends)
 
 pub report_element-put_key_symbol-requires : goal.report_element-put_key_symbol-requires
-report_element-put_key_symbol-requires t c = 
+report_element-put_key_symbol-requires t c =
     let p = c.requires in
     let r = room_behind p.0 p.1 c.report_records-r.ensures in
     let q = c.report_records-r.result in
@@ -136,7 +136,7 @@ pub report_element-shape_of-out : goal.report_element-shape_of-out
 report_element-shape_of-out t c = c.put_key_symbol.auto.out ∙ c.put_class_symbol-p.auto.out ∙ c.report_records-r.auto.out
 
 pub report_element-returns : goal.report_element-returns
-report_element-returns t c = 
+report_element-returns t c =
     let g = c.args in
     let p = c.requires in
     report_member p.0 p.1 g.a g.s.default c.class_symbol-t.result c.key_symbol-v.result.next c.key_symbol-v.result.default _ _ _ p.2 (not-false _ c.if-not-a.false) (sym (element_mark g.at p.0.ready.planned p.1 p.2) ∙ eq-eqb _ 1 c.if-notes-at-ne1.false)
@@ -198,7 +198,7 @@ pub report_record-shape_of-out-in_default : goal.report_record-shape_of-out-in_d
 report_record-shape_of-out-in_default t c = c.report_records.auto.out
 
 pub report_record-returns-in_default : goal.report_record-returns-in_default
-report_record-returns-in_default t c = 
+report_record-returns-in_default t c =
     let g = c.args in
     let p = c.requires in
     let k = c.kind_at-k.ensures in
@@ -207,7 +207,7 @@ report_record-returns-in_default t c =
     (reports_count c.children_at.ensures.0 c.report_records.ensures)
 
 pub report_records-loop-i-init : goal.report_records-loop-i-init
-report_records-loop-i-init t c = 
+report_records-loop-i-init t c =
     let g = c.args in
     (c.requires.ready.inside, omega arith, refl, reports_none g.ws.now g.at g.a g.s.next g.s.default g.out.now g.pos)
 
@@ -215,19 +215,19 @@ pub report_records-shape_of-out-then-ws-q : goal.report_records-shape_of-out-the
 report_records-shape_of-out-then-ws-q t c = c.loop-i.invariant.2
 
 pub report_records-returns-then-ws-q : goal.report_records-returns-then-ws-q
-report_records-returns-then-ws-q t c = 
+report_records-returns-then-ws-q t c =
     let g = c.args in
     let l = c.loop-i in
     reports_rest g.ws.now g.at g.a g.s.next g.s.default g.out.now g.pos l.i g.k l.n l.d l.q l.p l.invariant.1 l.invariant.3 (reports_past g.ws.now l.q g.a l.n l.d l.out l.p (g.k - l.i) c.if-ws-q.true)
 
 pub report_records-report_record-r-requires : goal.report_records-report_record-r-requires
-report_records-report_record-r-requires t c = 
+report_records-report_record-r-requires t c =
     let l = c.loop-i in
     let s = l.invariant.3 in
     (omega (arith, counts_on s.counts, c.if-ws-q.false), (asks_behind c.requires s, c.if-ws-q.false))
 
 pub report_records-loop-i-preserved : goal.report_records-loop-i-preserved
-report_records-loop-i-preserved t c = 
+report_records-loop-i-preserved t c =
     let g = c.args in
     let l = c.loop-i in
     (counts_within c.report_record-r.ensures.counts l.invariant.0, omega arith, c.report_record-r.auto.out ∙ l.invariant.2, reports_add g.ws.now g.at g.a g.s.next g.s.default g.out.now g.pos l.i 1 l.n l.d l.q l.p l.invariant.3 c.report_record-r.ensures)
@@ -236,7 +236,7 @@ pub report_records-shape_of-out : goal.report_records-shape_of-out
 report_records-shape_of-out t c = c.loop-i.invariant.2
 
 pub report_records-returns : goal.report_records-returns
-report_records-returns t c = 
+report_records-returns t c =
     let g = c.args in
     let l = c.loop-i in
     let e : l.i ≡ g.k = omega (arith, l.invariant.1) in

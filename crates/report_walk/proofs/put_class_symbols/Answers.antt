@@ -17,7 +17,7 @@ pub bounds-notes-at : goal.bounds-notes-at
 bounds-notes-at c = omega (arith, c.requires.0.ends.long, c.requires.1)
 
 pub returns-then-notes-at-ne1 : goal.returns-then-notes-at-ne1
-returns-then-notes-at-ne1 c = 
+returns-then-notes-at-ne1 c =
     let g = c.args in
     wrote_as (class_none g.id g.s.next g.s.default _ _ (sym (c.requires.0.classes (g.at + 1) c.requires.1 c.requires.2) ∙ ne_eqb _ 1 c.if-notes-at-ne1.true)) (wrote_none _ _)
 
@@ -25,7 +25,7 @@ pub put_class_symbol-requires : goal.put_class_symbol-requires
 put_class_symbol-requires c = omega (arith, c.requires.3, c.requires.4, c.requires.5)
 
 pub returns-then-id-eq-NONE : goal.returns-then-id-eq-NONE
-returns-then-id-eq-NONE c = 
+returns-then-id-eq-NONE c =
     let g = c.args in
     wrote_as (class_default g.id g.s.next g.s.default _ _ (sym (c.requires.0.classes (g.at + 1) c.requires.1 c.requires.2) ∙ eq-eqb _ 1 c.if-notes-at-ne1.false) c.if-id-eq-NONE.true) c.put_class_symbol.ensures
 
@@ -48,11 +48,11 @@ pub put-requires : goal.put-requires
 put-requires c = omega (arith, c.requires.3, c.requires.4, c.requires.5, c.put-p.ensures.end)
 
 pub returns-then-notes-at-eq1 : goal.returns-then-notes-at-eq1
-returns-then-notes-at-eq1 c = 
+returns-then-notes-at-eq1 c =
     let g = c.args in
     wrote_as (class_alias g.id g.s.next g.s.default _ _ _ _ (sym (c.requires.0.classes (g.at + 1) c.requires.1 c.requires.2) ∙ eq-eqb _ 1 c.if-notes-at-ne1.false) c.if-id-eq-NONE.false (eq-eqb _ 1 c.if-notes-at-eq1.true) c.word_of.ensures c.word_of-then-notes-at-eq1.ensures) (wrote_then c.put-p.ensures c.put.ensures)
 
 pub returns : goal.returns
-returns c = 
+returns c =
     let g = c.args in
     wrote_as (class_inner g.id g.s.next g.s.default _ _ _ (sym (c.requires.0.classes (g.at + 1) c.requires.1 c.requires.2) ∙ eq-eqb _ 1 c.if-notes-at-ne1.false) c.if-id-eq-NONE.false (ne_eqb _ 1 c.if-notes-at-eq1.false) c.word_of.ensures) c.put-p.ensures

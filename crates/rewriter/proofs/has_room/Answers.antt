@@ -13,6 +13,6 @@ pub returns-then-ws-room : goal.returns-then-ws-room
 returns-then-ws-room c = sym (le-leb (length (module_words c.args.ws.now)) c.args.room (omega (arith, module_length c.args.ws.now c.requires.0)))
 
 pub returns : goal.returns
-returns c = 
+returns c =
     let e : c.write_module-m.result.pos ≡ length (module_words c.args.ws.now) = omega (arith, c.write_module-m.ensures.wrote.end) in
     ap (λ (n : ℕ). leb n c.args.room) e

@@ -9,7 +9,7 @@ use Rattle.rewriter.proofs.rewrite.Goals as goal
 
 pub returns-then-v-ne0 : goal.returns-then-v-ne0
 unfolding numbers_of rewrite_answer rewrite_lent
-returns-then-v-ne0 c = 
+returns-then-v-ne0 c =
     let g = c.args in
     let ws = g.ws.now in
     let v = c.number-v.result in
@@ -28,6 +28,6 @@ pub rewrite_by-requires-then-ws-le512 : goal.rewrite_by-requires-then-ws-le512
 rewrite_by-requires-then-ws-le512 c = (sym (c.number-v.ensures ∙ c.validate.ensures) ∙ c.if-v-ne0.false, omega (arith, c.if-ws-le512.true))
 
 pub rewrite_by-requires-2 : goal.rewrite_by-requires-2
-rewrite_by-requires-2 c = 
+rewrite_by-requires-2 c =
     let ok = sym (c.number-v.ensures ∙ c.validate.ensures) ∙ c.if-v-ne0.false in
     (ok, omega (arith, (well c.args.ws.now ok).sized.few))

@@ -15,7 +15,7 @@ turned_back_by-v-requires c = c.requires
 
 pub returns-then-v-ne0 : goal.returns-then-v-ne0
 unfolding numbers_of rewrite_answer rewrite_lent
-returns-then-v-ne0 c = 
+returns-then-v-ne0 c =
     let g = c.args in
     let n = answer_back g.ws.now (module_words g.ws.now) g.out.now c.turned_back_by-v.result c.turned_back_by-v.ensures.0 c.if-v-ne0.true in
     record {
@@ -25,7 +25,7 @@ returns-then-v-ne0 c =
     }
 
 pub find_counts-requires : goal.find_counts-requires
-find_counts-requires c = 
+find_counts-requires c =
     let ws = c.args.ws.now in
     ready_at ws (not_turned_back ws (sym c.turned_back_by-v.ensures.0 ∙ c.if-v-ne0.false)) _ (c.payload_at.ensures.0 ∙ symbols_word ws) (c.turned_back_by-v.ensures.1 c.if-v-ne0.false)
 
@@ -34,7 +34,7 @@ has_room-requires c = (not_turned_back c.args.ws.now (sym c.turned_back_by-v.ens
 
 pub returns-then-not-has_room : goal.returns-then-not-has_room
 unfolding numbers_of rewrite_answer rewrite_lent
-returns-then-not-has_room c = 
+returns-then-not-has_room c =
     let g = c.args in
     let t = sym c.turned_back_by-v.ensures.0 ∙ c.if-v-ne0.false in
     let n = answer_8 g.ws.now (module_words g.ws.now) g.out.now t (leb-false (length (module_words g.ws.now)) (length g.out.now) (sym c.has_room.ensures ∙ c.if-not-has_room.true)) in
@@ -52,7 +52,7 @@ overflow_sub-result c = omega (arith, c.write_module-r.ensures.next, c.payload_a
 
 pub returns : goal.returns
 unfolding numbers_of
-returns c = 
+returns c =
     let g = c.args in
     let t = sym c.turned_back_by-v.ensures.0 ∙ c.if-v-ne0.false in
     let fits = leb-true (length (module_words g.ws.now)) (length g.out.now) (sym c.has_room.ensures ∙ c.if-not-has_room.false) in

@@ -9,7 +9,7 @@ pub returns-then-v-ne0 : goal.returns-then-v-ne0
 returns-then-v-ne0 c = back_fault c.args.ws.now c.number-v.result (c.number-v.ensures ∙ c.validate.ensures) c.if-v-ne0.true
 
 pub turned_back_by-requires : goal.turned_back_by-requires
-turned_back_by-requires c = 
+turned_back_by-requires c =
     let ok = sym (c.number-v.ensures ∙ c.validate.ensures) ∙ c.if-v-ne0.false in
     (ok, omega (arith, (well c.args.ws.now ok).sized.few))
 

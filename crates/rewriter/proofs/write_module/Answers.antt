@@ -8,14 +8,14 @@ use mathlib.Core.Path.{sym, subst, ◌∙◌}
 use Rattle.rewriter.proofs.write_module.Goals as goal
 
 pub record-requires : goal.record-requires
-record-requires c = 
+record-requires c =
     let g = c.args in
     let ws = g.ws.now in
     let e = sym (c.payload_at-s.ensures.0 ∙ symbols_word ws) in
     (subst (λ (s : ℕ). Asks ws g.notes.now 0 1 s c.empty.result 0 (size (here_at ws 0 1 start_scope (record { next = s; default = 67108864 })))) e (start_asks ws c.requires.0 c.empty.result c.empty.ensures.0 g.notes.now c.requires.1 c.requires.2 c.empty.ensures.1), start_inside ws c.requires.0)
 
 pub returns : goal.returns
-returns c = 
+returns c =
     let g = c.args in
     let ws = g.ws.now in
     let e = c.payload_at-s.ensures.0 ∙ symbols_word ws in

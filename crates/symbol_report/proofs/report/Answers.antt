@@ -10,7 +10,7 @@ use Rattle.symbol_report.proofs.report.Goals as goal
 
 pub returns-then-v-ne0 : goal.returns-then-v-ne0
 unfolding numbers_of report_answer
-returns-then-v-ne0 c = 
+returns-then-v-ne0 c =
     let g = c.args in
     let ws = g.ws.now in
     let v = c.number-v.result in
@@ -25,6 +25,6 @@ pub report_by-requires-then-ws-le512 : goal.report_by-requires-then-ws-le512
 report_by-requires-then-ws-le512 c = (sym (c.number-v.ensures ∙ c.validate.ensures) ∙ c.if-v-ne0.false, omega (arith, c.if-ws-le512.true))
 
 pub report_by-requires-2 : goal.report_by-requires-2
-report_by-requires-2 c = 
+report_by-requires-2 c =
     let ok = sym (c.number-v.ensures ∙ c.validate.ensures) ∙ c.if-v-ne0.false in
     (ok, omega (arith, (well c.args.ws.now ok).sized.few))

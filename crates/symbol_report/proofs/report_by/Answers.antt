@@ -15,7 +15,7 @@ turned_back_by-v-requires c = c.requires
 
 pub returns-then-v-ne0 : goal.returns-then-v-ne0
 unfolding numbers_of report_answer
-returns-then-v-ne0 c = 
+returns-then-v-ne0 c =
     let g = c.args in
     let n = answer_back g.ws.now (report_words g.ws.now) g.out.now c.turned_back_by-v.result c.turned_back_by-v.ensures.0 c.if-v-ne0.true in
     record { numbers = n; lent = report_back g.ws.now g.out.now (record { code = c.turned_back_by-v.result; written = 0; fresh = 0 }) n c.if-v-ne0.true }
@@ -25,7 +25,7 @@ has_room-requires c = (not_turned_back c.args.ws.now (sym c.turned_back_by-v.ens
 
 pub returns-then-not-has_room : goal.returns-then-not-has_room
 unfolding numbers_of report_answer
-returns-then-not-has_room c = 
+returns-then-not-has_room c =
     let g = c.args in
     let t = sym c.turned_back_by-v.ensures.0 ∙ c.if-v-ne0.false in
     let n = answer_8 g.ws.now (report_words g.ws.now) g.out.now t (leb-false (length (report_words g.ws.now)) (length g.out.now) (sym c.has_room.ensures ∙ c.if-not-has_room.true)) in
@@ -39,7 +39,7 @@ overflow_sub-result c = omega (arith, c.write_report-r.ensures.next, c.payload_a
 
 pub returns : goal.returns
 unfolding numbers_of report_answer
-returns c = 
+returns c =
     let g = c.args in
     let t = sym c.turned_back_by-v.ensures.0 ∙ c.if-v-ne0.false in
     let fits = leb-true (length (report_words g.ws.now)) (length g.out.now) (sym c.has_room.ensures ∙ c.if-not-has_room.false) in

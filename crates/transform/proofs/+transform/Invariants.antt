@@ -1,11 +1,8 @@
 use Rattle.transform.specs.StepsKept.{Keeping}
-use Rattle.transform.specs.StepsClasses.{class_state}
 use Prim.Native.Nat.{◌+◌, ◌*◌, ◌-◌}
-use mathlib.Core.Bool.{not}
 use Rattle.transform.specs.StepsCalls.{Gives}
 use Rattle.transform.specs.Contract.{Queues}
 use Rattle.rewriting.specs.Parts.{indexed as indexed', of_parameters}
-use Rattle.grammar.specs.Grammar.{element}
 use Prim.Native.Nat.{◌+◌, ◌*◌, ◌-◌, ◌≤◌}
 use Rattle.transform.specs.StepsMembers.{Bared}
 use lib.ListN.{length}

@@ -18,12 +18,12 @@ pub get_class_member_prefix-p1-requires : goal.get_class_member_prefix-p1-requir
 get_class_member_prefix-p1-requires c = (c.requires.0, omega (arith, c.requires.1), subst (λ (n : ℕ). n < 67108864) (sym (c.symbol_of.ensures.0 c.requires.4)) c.requires.3)
 
 pub get_name_of_property_key-p2-requires : goal.get_name_of_property_key-p2-requires
-get_name_of_property_key-p2-requires c = 
+get_name_of_property_key-p2-requires c =
     let a = c.args in
     (c.requires.0, omega (arith, c.get_class_member_prefix-p1.ensures.end, prefix_length (word_below a.c) 0 c.symbol_of.result (eqb (bit0 c.payload_at.result) 1), c.requires.1), c.requires.2, c.requires.5, c.requires.6, c.requires.7)
 
 pub put-requires : goal.put-requires
-put-requires c = 
+put-requires c =
     let a = c.args in (
       c.requires.0,
       omega (arith, c.get_name_of_property_key-p2.ensures.end, c.get_class_member_prefix-p1.ensures.end, prefix_length (word_below a.c) 0 c.symbol_of.result (eqb (bit0 c.payload_at.result) 1), c.requires.1),
@@ -33,7 +33,7 @@ put-requires c =
 
 pub returns : goal.returns
 unfolding argument_words around_of state_in state_of bit is
-returns c = 
+returns c =
     let a = c.args in
     let w : ℕ → ℕ → ℕ = word_below a.c in
     wrote_then

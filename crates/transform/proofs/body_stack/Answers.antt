@@ -5,7 +5,7 @@ use Rattle.transform.specs.Leaves.{body_push, body_same}
 use Rattle.transform.proofs.body_stack.Goals as goal
 
 pub returns-then-g-eq-NONE : goal.returns-then-g-eq-NONE
-returns-then-g-eq-NONE c = 
+returns-then-g-eq-NONE c =
     let a = c.args in
     (c.requires.0, omega arith, body_same a.g a.c c.if-g-eq-NONE.true)
 
@@ -13,6 +13,6 @@ pub push-requires : goal.push-requires
 push-requires c = (c.requires.0, c.requires.1, ⊎_elim (λ l. l) (λ e. absurd (c.if-g-eq-NONE.false e)) c.requires.3, omega (arith, c.requires.2, c.if-g-eq-NONE.false))
 
 pub returns : goal.returns
-returns c = 
+returns c =
     let a = c.args in
     (c.push.ensures.1, omega (arith, c.push.ensures.2), body_push a.g a.c c.push.result c.if-g-eq-NONE.false c.push.ensures.0)

@@ -3,14 +3,13 @@ use Rattle.transform.specs.Copies.{copying_start, copying_next, copying_all}
 use Rattle.transform.specs.StepsRecords.{kind_small}
 use Rattle.transform.specs.StepsCalls.{wrote_length}
 use native.Mathlib.Omega.{arith}
-use Prim.Native.Nat.{◌-◌}
 use Rattle.transform.proofs.copied.Goals as goal
 
 pub loop-i-init : goal.loop-i-init
 loop-i-init c = copying_start c.requires.some
 
 pub put-p-requires : goal.put-p-requires
-put-p-requires c = 
+put-p-requires c =
     let g = c.args in
     let f = c.requires in
     let l = c.loop-i in

@@ -13,7 +13,7 @@ pub bounds-notes-at : goal.bounds-notes-at
 bounds-notes-at c = omega (arith, c.requires.0.ends.long, c.requires.2)
 
 pub returns : goal.returns
-returns c = 
+returns c =
     let g = c.args in
     let p = c.requires in
     let z = sym c.kind_bit.ensures.0 ∙ c.if-kind_bit-ne0.false in

@@ -9,37 +9,37 @@ use Rattle.transform.specs.Plain.{plain_not, plain_is, class_mark}
 use Rattle.transform.proofs.is_plain.Goals as goal
 
 pub bounds-notes-at : goal.bounds-notes-at
-bounds-notes-at c = 
+bounds-notes-at c =
     let g = c.args in
     let p = c.requires in
     omega (arith, p.0.ends.long, class_inside g.ws.now p.1 g.at p.2 p.3)
 
 pub returns-then-notes-at-eq1 : goal.returns-then-notes-at-eq1
-returns-then-notes-at-eq1 c = 
+returns-then-notes-at-eq1 c =
     let g = c.args in
     let p = c.requires in
     sym (plain_not _ (sym (class_mark g.ws.now p.1 g.at p.2 p.3 p.0) ∙ eq-eqb _ 1 c.if-notes-at-eq1.true))
 
 pub class_body-b-requires : goal.class_body-b-requires
-class_body-b-requires c = 
+class_body-b-requires c =
     let g = c.args in
     let p = c.requires in
     body_asks g.ws.now p.1 (g.at + 1) (class_inside g.ws.now p.1 g.at p.2 p.3) (class_kind g.ws.now p.1 g.at p.2 p.3) p.0.ends
 
 pub offset_bounds-notes-b : goal.offset_bounds-notes-b
-offset_bounds-notes-b c = 
+offset_bounds-notes-b c =
     let g = c.args in
     let p = c.requires in
     omega (arith, body_inside g.ws.now p.1 (g.at + 1) (class_inside g.ws.now p.1 g.at p.2 p.3) (class_kind g.ws.now p.1 g.at p.2 p.3) c.class_body-b.ensures)
 
 pub bounds-notes-b : goal.bounds-notes-b
-bounds-notes-b c = 
+bounds-notes-b c =
     let g = c.args in
     let p = c.requires in
     omega (arith, p.0.ends.long, body_inside g.ws.now p.1 (g.at + 1) (class_inside g.ws.now p.1 g.at p.2 p.3) (class_kind g.ws.now p.1 g.at p.2 p.3) c.class_body-b.ensures)
 
 pub returns : goal.returns
-returns c = 
+returns c =
     let g = c.args in
     let p = c.requires in
     let mark = body_mark g.ws.now p.1 (g.at + 1) (class_inside g.ws.now p.1 g.at p.2 p.3) (class_kind g.ws.now p.1 g.at p.2 p.3) c.class_body-b.ensures p.0 in

@@ -9,7 +9,7 @@ pub returns-then-g : goal.returns-then-g
 returns-then-g c = wrote_as (let_fixed c.args.g c.args.c c.if-g.true) (wrote_then c.put-p1.ensures c.put.ensures)
 
 pub put-requires-2 : goal.put-requires-2
-put-requires-2 c = 
+put-requires-2 c =
     let a = c.args in
     (c.requires.0, omega (arith, c.put_optional-p2.ensures.end, optional_length (word_below a.c) 18 a.g.alias, c.put-p1.ensures.end, c.requires.1), omega arith, omega arith)
 

@@ -11,17 +11,17 @@ pub overflow_add-result : goal.overflow_add-result
 overflow_add-result c = omega (arith, c.requires.0.room)
 
 pub class_count-requires : goal.class_count-requires
-class_count-requires c = 
+class_count-requires c =
     let p = c.requires in
     let a = c.args in
     (p.0.planned, class_inside a.ws.now p.0.whole a.at p.1 p.2, class_kind a.ws.now p.0.whole a.at p.1 p.2, omega (arith, p.0.few, p.1))
 
 pub overflow_sub-result : goal.overflow_sub-result
-overflow_sub-result c = 
+overflow_sub-result c =
     let p = c.requires in
     omega (arith, named_symbols_lem p.0 p.1 p.2 p.3 _ p.5 p.6 p.4, c.class_count.ensures.0)
 
 pub returns : goal.returns
-returns c = 
+returns c =
     let p = c.requires in
     omega (arith, named_symbols_lem p.0 p.1 p.2 p.3 _ p.5 p.6 p.4, c.class_count.ensures.0)

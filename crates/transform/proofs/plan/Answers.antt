@@ -19,13 +19,13 @@ pub private_at-private-requires : goal.private_at-private-requires
 private_at-private-requires c = (c.requires.2, omega (arith, c.requires.5))
 
 pub class_body-b-requires : goal.class_body-b-requires
-class_body-b-requires c = 
+class_body-b-requires c =
     let a = c.args in
     let p = c.requires in
     body_asks a.ws.now p.7 (a.at + 1) p.5 p.6 p.2.ends
 
 pub overflow_add-b : goal.overflow_add-b
-overflow_add-b c = 
+overflow_add-b c =
     let a = c.args in
     let p = c.requires in
     omega (arith, body_inside a.ws.now p.7 (a.at + 1) p.5 p.6 c.class_body-b.ensures)
@@ -37,7 +37,7 @@ pub call_count_at-calls-requires : goal.call_count_at-calls-requires
 call_count_at-calls-requires c = (c.requires.0, c.requires.2, λ h. body_kind c.args.ws.now c.requires.7 (c.args.at + 1) c.requires.5 c.requires.6 c.class_body-b.ensures)
 
 pub returns-then-id-eq-NONE : goal.returns-then-id-eq-NONE
-returns-then-id-eq-NONE c = 
+returns-then-id-eq-NONE c =
     let a = c.args in
     let p = c.requires in
     plan_from c.class_body-b.result c.children_at.result (body_kids a.ws.now p.7 (a.at + 1) p.5 p.6 c.class_body-b.ensures) c.children_at.ensures.0 c.class_id-id.ensures.0 (p.2.classes (a.at + 1) p.5 p.6) c.private_at-private.ensures c.has_static-fixed.ensures c.call_count_at-calls.ensures
@@ -47,14 +47,14 @@ pub alias_of-requires : goal.alias_of-requires
 alias_of-requires c = (omega (arith, c.requires.2.ends.long, c.requires.1), c.requires.3)
 
 pub returns-then-decorated : goal.returns-then-decorated
-returns-then-decorated c = 
+returns-then-decorated c =
     let a = c.args in
     let p = c.requires in
     plan_from c.class_body-b.result c.children_at.result (body_kids a.ws.now p.7 (a.at + 1) p.5 p.6 c.class_body-b.ensures) c.children_at.ensures.0 c.class_id-id.ensures.0 (p.2.classes (a.at + 1) p.5 p.6) c.private_at-private.ensures c.has_static-fixed.ensures c.call_count_at-calls.ensures
     (found_named (mark_in (get_or a.notes.now a.at 0)) a.s.next a.s.default _ p.3 p.4 c.class_id-id.ensures.1 c.if-decorated.true-raw c.if-id-eq-NONE.false refl refl c.alias_of.ensures.0 c.alias_of.ensures.1)
 
 pub returns : goal.returns
-returns c = 
+returns c =
     let a = c.args in
     let p = c.requires in
     plan_from c.class_body-b.result c.children_at.result (body_kids a.ws.now p.7 (a.at + 1) p.5 p.6 c.class_body-b.ensures) c.children_at.ensures.0 c.class_id-id.ensures.0 (p.2.classes (a.at + 1) p.5 p.6) c.private_at-private.ensures c.has_static-fixed.ensures c.call_count_at-calls.ensures

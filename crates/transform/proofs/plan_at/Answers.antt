@@ -11,33 +11,33 @@ pub class_id-id-requires : goal.class_id-id-requires
 class_id-id-requires c = c.requires.0.planned.ends
 
 pub next_behind-requires : goal.next_behind-requires
-next_behind-requires c = 
+next_behind-requires c =
     let p = c.requires in
     (p.0, p.1, p.2, p.3, p.4, c.class_id-id.ensures.0, c.if-id-ne-NONE.true)
 
 pub plan-requires : goal.plan-requires
-plan-requires c = 
+plan-requires c =
     let p = c.requires in
     let a = c.args in
     (p.0.few, p.1, p.0.planned, omega (arith, c.next_behind.ensures, named_room p.0 p.1 p.2 p.3 _ c.class_id-id.ensures.0 c.if-id-ne-NONE.true), omega arith, class_inside a.ws.now p.0.whole a.at p.1 p.2, class_kind a.ws.now p.0.whole a.at p.1 p.2, p.0.whole)
 
 pub returns-then-id-ne-NONE : goal.returns-then-id-ne-NONE
-returns-then-id-ne-NONE c = 
+returns-then-id-ne-NONE c =
     let p = c.requires in
     plans_named p.0 p.1 p.2 p.3 _ c.class_id-id.ensures.0 c.if-id-ne-NONE.true (rw (sym c.next_behind.ensures) c.plan.ensures)
 
 pub count_records-r-requires : goal.count_records-r-requires
-count_records-r-requires c = 
+count_records-r-requires c =
     let p = c.requires in
     (ready_next p.0 p.1, noted_on _ _ _ _ (omega arith) p.4)
 
 pub plan-requires-2 : goal.plan-requires-2
-plan-requires-2 c = 
+plan-requires-2 c =
     let p = c.requires in
     let a = c.args in
     (p.0.few, p.1, p.0.planned, plan_next p.0 p.1 p.2 p.3 _ c.class_id-id.ensures.0 c.count_records-r.ensures, plan_default p.0 p.1 p.2 p.3 _ c.class_id-id.ensures.0 c.count_records-r.ensures, class_inside a.ws.now p.0.whole a.at p.1 p.2, class_kind a.ws.now p.0.whole a.at p.1 p.2, p.0.whole)
 
 pub returns : goal.returns
-returns c = 
+returns c =
     let p = c.requires in
     plans p.0 p.1 p.2 p.3 _ c.class_id-id.ensures.0 c.count_records-r.ensures c.plan-2.ensures

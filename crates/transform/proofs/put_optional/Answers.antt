@@ -5,11 +5,11 @@ use Rattle.transform.specs.Leaves.{optional_is, optional_no, wrote_as}
 use Rattle.transform.proofs.put_optional.Goals as goal
 
 pub returns-then-p-eq-NONE : goal.returns-then-p-eq-NONE
-returns-then-p-eq-NONE c = 
+returns-then-p-eq-NONE c =
     let a = c.args in
     wrote_as (optional_no (word_below a.c) a.k a.p c.if-p-eq-NONE.true) (wrote_none _ _)
 
 pub returns : goal.returns
-returns c = 
+returns c =
     let a = c.args in
     wrote_as (optional_is (word_below a.c) a.k a.p c.if-p-eq-NONE.false) c.put.ensures

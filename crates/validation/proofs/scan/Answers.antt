@@ -6,7 +6,7 @@ use Rattle.grammar.specs.Limits.{max_depth}
 use Rattle.words.specs.Word.{kind_of, payload_of, children_le, payload_lt}
 use lib.ListN.{get_or}
 use native.Mathlib.Omega.{arith}
-use Prim.Native.Nat.{◌-◌, ◌≤◌}
+use Prim.Native.Nat.{◌≤◌}
 use mathlib.Core.Path.{refl, sym, ◌∙◌}
 use Rattle.validation.proofs.scan.Goals as goal
 
@@ -49,7 +49,7 @@ loop-r-smaller-then-kind_bit-ne0 c = omega (arith, c.if-ws-at.false)
 
 pub loop-r-preserved-then-kind_bit-ne0 : goal.loop-r-preserved-then-kind_bit-ne0
 unfolding ahead leaves
-loop-r-preserved-then-kind_bit-ne0 c = 
+loop-r-preserved-then-kind_bit-ne0 c =
     let le : c.next-r.result.left ≤ max_depth = omega (arith, c.next-r.ensures.1.levels) in
     (record { fields = record { category = c.next-r.ensures.1.fields.category; context = c.next-r.ensures.1.fields.context; count = omega (arith, c.next-r.ensures.1.fields.count) }; room = c.next-r.ensures.1.room; levels = c.next-r.ensures.1.levels }, scan_leaf c.next-r.result.category c.next-r.result.context c.next-r.result.left c.next-r.result.count _ (rest_as (sym c.next-r.ensures.0) c.loop-r.invariant.1) c.if-r-eq0.false c.fault-f.result c.if-ws-at.false c.fault-f.ensures c.if-f-ne0.false le (λ z. c.if-kind_bit-ne0.true (c.kind_bit.ensures.0 ∙ z)), c.loop-r.invariant.2)
 
@@ -61,7 +61,7 @@ shape_of-stack-then-stack-r c = c.loop-r.invariant.2
 
 pub returns-then-stack-r : goal.returns-then-stack-r
 unfolding ahead
-returns-then-stack-r c = 
+returns-then-stack-r c =
     let d = scan_depth c.next-r.result.category c.next-r.result.context c.next-r.result.left c.next-r.result.count _ (rest_as (sym c.next-r.ensures.0) c.loop-r.invariant.1) c.if-r-eq0.false c.fault-f.result c.if-ws-at.false c.fault-f.ensures c.if-f-ne0.false in
     scanned_short refl (omega (arith, d, c.if-stack-r.true, c.loop-r.invariant.2, c.next-r.ensures.1.levels))
 
@@ -70,19 +70,19 @@ overflow_sub-r c = omega (arith, c.if-r-eq0.false)
 
 pub push-t-requires : goal.push-t-requires
 unfolding ahead
-push-t-requires c = 
+push-t-requires c =
     let d = scan_depth c.next-r.result.category c.next-r.result.context c.next-r.result.left c.next-r.result.count _ (rest_as (sym c.next-r.ensures.0) c.loop-r.invariant.1) c.if-r-eq0.false c.fault-f.result c.if-ws-at.false c.fault-f.ensures c.if-f-ne0.false in
     (record { category = c.next-r.ensures.1.fields.category; context = c.next-r.ensures.1.fields.context; count = omega (arith, c.next-r.ensures.1.fields.count) }, c.next-r.ensures.1.room, omega (arith, c.if-stack-r.false), c.next-r.ensures.1.levels)
 
 pub overflow_sub-r-then-kind_bit-eq0 : goal.overflow_sub-r-then-kind_bit-eq0
 unfolding ahead
-overflow_sub-r-then-kind_bit-eq0 c = 
+overflow_sub-r-then-kind_bit-eq0 c =
     let d = scan_depth c.next-r.result.category c.next-r.result.context c.next-r.result.left c.next-r.result.count _ (rest_as (sym c.next-r.ensures.0) c.loop-r.invariant.1) c.if-r-eq0.false c.fault-f.result c.if-ws-at.false c.fault-f.ensures c.if-f-ne0.false in
     omega arith
 
 pub children-run-requires : goal.children-run-requires
 unfolding ahead leaves plain
-children-run-requires c = 
+children-run-requires c =
     let d = scan_depth c.next-r.result.category c.next-r.result.context c.next-r.result.left c.next-r.result.count _ (rest_as (sym c.next-r.ensures.0) c.loop-r.invariant.1) c.if-r-eq0.false c.fault-f.result c.if-ws-at.false c.fault-f.ensures c.if-f-ne0.false in
     (record { leaf = sym c.kind_bit.ensures.0 ∙ c.if-kind_bit-ne0.false; kind = sym c.kind_bit-in-loop-r.ensures.0 ∙ c.if-kind_bit-eq0.true; known = scan_known c.next-r.result.category c.next-r.result.context c.next-r.result.left c.next-r.result.count _ (rest_as (sym c.next-r.ensures.0) c.loop-r.invariant.1) c.if-r-eq0.false c.fault-f.result c.if-ws-at.false c.fault-f.ensures c.if-f-ne0.false }, c.push-t.ensures.room, omega (arith, c.if-stack-r.false, c.push-t.ensures.few, c.push-t.auto.stack), omega (arith, d, c.next-r.ensures.1.levels, c.push-t.ensures.few), c.next-r.ensures.1.fields.context)
 
@@ -91,13 +91,13 @@ loop-r-smaller-then-kind_bit-eq0 c = omega (arith, c.if-ws-at.false)
 
 pub loop-r-preserved-then-kind_bit-eq0 : goal.loop-r-preserved-then-kind_bit-eq0
 unfolding ahead
-loop-r-preserved-then-kind_bit-eq0 c = 
+loop-r-preserved-then-kind_bit-eq0 c =
     let le : c.next-r.result.left ≤ max_depth = omega (arith, c.next-r.ensures.1.levels) in
     (c.children-run.ensures.1, scan_below c.next-r.result.category c.next-r.result.context c.next-r.result.left c.next-r.result.count _ (rest_as (sym c.next-r.ensures.0) c.loop-r.invariant.1) c.if-r-eq0.false c.fault-f.result c.if-ws-at.false c.fault-f.ensures c.if-f-ne0.false le _ c.push-t.ensures.places c.children-run.ensures.0, c.children-run.auto.stack ∙ c.push-t.auto.stack ∙ c.loop-r.invariant.2)
 
 pub overflow_sub-run-in-loop-r : goal.overflow_sub-run-in-loop-r
 unfolding ahead
-overflow_sub-run-in-loop-r c = 
+overflow_sub-run-in-loop-r c =
     let d = scan_depth c.next-r.result.category c.next-r.result.context c.next-r.result.left c.next-r.result.count _ (rest_as (sym c.next-r.ensures.0) c.loop-r.invariant.1) c.if-r-eq0.false c.fault-f.result c.if-ws-at.false c.fault-f.ensures c.if-f-ne0.false in
     omega arith
 
@@ -106,7 +106,7 @@ loop-r-smaller c = omega (arith, c.if-ws-at.false)
 
 pub loop-r-preserved : goal.loop-r-preserved
 unfolding ahead plain
-loop-r-preserved c = 
+loop-r-preserved c =
     let w = get_or c.args.ws.now c.loop-r.at 0 in
     let le : c.next-r.result.left ≤ max_depth = omega (arith, c.next-r.ensures.1.levels) in
     let d = scan_depth c.next-r.result.category c.next-r.result.context c.next-r.result.left c.next-r.result.count _ (rest_as (sym c.next-r.ensures.0) c.loop-r.invariant.1) c.if-r-eq0.false c.fault-f.result c.if-ws-at.false c.fault-f.ensures c.if-f-ne0.false in

@@ -1,4 +1,4 @@
-use Rattle.validation.specs.Walked.{Rest, run, ahead, Good}
+use Rattle.validation.specs.Walked.{Rest, ahead, Good}
 use Rattle.grammar.specs.Scan.{place}
 use Rattle.grammar.specs.Grammar.{module'}
 use lib.ListN.{length}

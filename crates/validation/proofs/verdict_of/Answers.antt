@@ -30,6 +30,6 @@ returns-in-5 c = sym c.in-5.is
 
 pub returns-in_default : goal.returns-in_default
 unfolding number_of
-returns-in_default c = 
+returns-in_default c =
     let r = c.in_default.in_default-own.rest in
     only_six c.args.fault c.requires r.0.0.0.0.0.1 r.0.0.0.0.1 r.0.0.0.1 r.0.0.1 r.0.1 r.1

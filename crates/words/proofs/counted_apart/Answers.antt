@@ -23,6 +23,6 @@ unfolding children_by shape_of shapes counted lookup bit0 bit1 bit2
 returns-in-31 c = rw c.in-31.is (omega arith)
 
 pub returns-in_default : goal.returns-in_default
-returns-in_default c = 
+returns-in_default c =
     let r = c.in_default.in_default-own.rest in
     sym (apart_children c.args.kind c.args.payload c.requires.0 c.requires.1 r.0.0.0.1 r.0.0.1 r.0.1 r.1)

@@ -8,7 +8,7 @@ use Rattle.words.proofs.word_of.Goals as goal
 
 pub returns : goal.returns
 unfolding word_of
-returns c = 
+returns c =
     ap (λ n. bit_or n c.args.payload) whole ∙ or_shifted c.args.kind 26 c.args.payload (omega arith)
   where
     whole : c.args.kind * 67108864 % 4294967296 ≡ c.args.kind * 67108864
