@@ -1,4 +1,4 @@
-// The C entry: a module's bytes in, the bytes of what it becomes out, one number back. Keeps nothing between calls.
+// The calls of the C entry, which host_c exports: a module's bytes in, the bytes of what it becomes out, one number back. Keeps nothing between calls.
 #![tactic(auto)]
 
 ghost use Rattle.std.specs.Prelude.{◌≡◌, true, false, ◌+◌, ◌*◌, ◌/◌, ◌%◌, ◌≤◌, ltb, length, take};

@@ -12,7 +12,8 @@ use Rattle.records.specs.Label.{Label, Origin, made, read, Trees, ◌∶◌, rep
 use Rattle.rewriting.specs.Parts.{tree, is_empty, recount, kids_of, Role, module', list, statement, expression, method, constructor, plain, field, role_of, decorators, undecorate, of_parameters, parameters_of, decorators_of, bare_method, bare_field, is_constructor, is_member, is_decorated_member, elements_of, with_elements, id_of, has_private_in, has_static, constructor_decorated, first_constructor, bare_first, is_decorated, is_decorated_class, is_live, class_kids}
 use Rattle.rewriting.specs.Visit.{Around, State, Result, Default, Alias, kept, is_ref, renamed, Symbols, named_symbols, symbols_of, aliased, assignment, block_alias, let_alias, alias_block, call_block, queued, export, first_payload, with_id, decorated_statement, decorated₁, decorated₂, name_class, extend_body, undecorated_if, live_class_if, live_class, dead_class, class_if, whole_module, own, member, signed_by, work, since, inside, entering, visit, visit_one, visit_end}
 use Rattle.rewriting.specs.Demand.{Has, first, below, behind, same, count_at, taken, AsVisited, Calls, Stay, constructors, Names, Behind, ClassGives, Gives, Listed}
-use Rattle.rewriting.proofs.DemandShapes.{Read, member_role_lem, statement_role, statement_role_lem, statement_kind, empty_end, ClassOnly, Settled, Shape, Shaped}
+use Rattle.rewriting.proofs.DemandShapes.{Read, member_role_lem, statement_role, statement_role_lem, statement_kind, ClassOnly, Settled, Shape, Shaped}
+use Rattle.rewriting.proofs.DemandShaped.{empty_end}
 use Rattle.rewriting.proofs.DemandVisits.{one_as, one_role_lem, visit_here}
 use Rattle.rewriting.proofs.DemandReport.{at_from, taken_empty, taken_right, taken_none, signed_own, Distinct, Agree, agree_one, agree_kids, agree_rest, once_kids, once_rest, report_none, visit_signed, After, default_visit, nameless_calls, class_if_other}
 use Rattle.rewriting.proofs.DemandCalls.{Chosen, MembersStand, elements_calls}

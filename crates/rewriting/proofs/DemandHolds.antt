@@ -11,7 +11,8 @@ use Rattle.records.specs.Label.{Label, read, Trees, read_at, read_from, is, arit
 use Rattle.rewriting.specs.Visit.{State, visit, outermost, module_of, visit_words}
 use Rattle.rewriting.specs.Demand.{Has, first, below, behind, same, is_at, count_at, dropped, is_list, statements_of, Found, Demand}
 use Rattle.rewriting.specs.DemandGrammar.{Accepted}
-use Rattle.rewriting.proofs.DemandShapes.{Read, Shaped, shaped}
+use Rattle.rewriting.proofs.DemandShapes.{Read, Shaped}
+use Rattle.rewriting.proofs.DemandShaped.{shaped}
 use Rattle.rewriting.proofs.DemandReport.{Distinct}
 use Rattle.rewriting.proofs.DemandBehind.{listed}
 use Rattle.rewriting.proofs.DemandCount.{dead_calls, high, low, cost}

@@ -16,6 +16,8 @@ pub mod Closed
 pub mod ReadAgain
 pub mod Room
 pub mod DemandShapes
+pub mod DemandOutside
+pub mod DemandShaped
 pub mod DemandVisits
 pub mod DemandReport
 pub mod DemandCalls

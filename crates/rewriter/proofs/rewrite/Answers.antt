@@ -22,7 +22,7 @@ returns-then-v-ne0 c =
     }
 
 pub rewrite_by-requires : goal.rewrite_by-requires
-rewrite_by-requires c = (sym (c.number-v.ensures ∙ c.validate.ensures) ∙ c.if-v-ne0.false, omega (arith, c.if-ws-le64.true))
+rewrite_by-requires c = (sym (c.number-v.ensures ∙ c.validate.ensures) ∙ c.if-v-ne0.false, omega arith)
 
 pub rewrite_by-requires-then-ws-le512 : goal.rewrite_by-requires-then-ws-le512
 rewrite_by-requires-then-ws-le512 c = (sym (c.number-v.ensures ∙ c.validate.ensures) ∙ c.if-v-ne0.false, omega (arith, c.if-ws-le512.true))

@@ -19,7 +19,7 @@ returns-then-v-ne0 c =
     record { numbers = n; lent = report_back ws g.out.now (record { code = v; written = 0; fresh = 0 }) n c.if-v-ne0.true }
 
 pub report_by-requires : goal.report_by-requires
-report_by-requires c = (sym (c.number-v.ensures ∙ c.validate.ensures) ∙ c.if-v-ne0.false, omega (arith, c.if-ws-le64.true))
+report_by-requires c = (sym (c.number-v.ensures ∙ c.validate.ensures) ∙ c.if-v-ne0.false, omega arith)
 
 pub report_by-requires-then-ws-le512 : goal.report_by-requires-then-ws-le512
 report_by-requires-then-ws-le512 c = (sym (c.number-v.ensures ∙ c.validate.ensures) ∙ c.if-v-ne0.false, omega (arith, c.if-ws-le512.true))
