@@ -3,6 +3,7 @@ use mathlib.Core.Path.{refl}
 use mathlib.Core.Logic.{inr}
 use Prim.Native.Nat.{◌+◌}
 use native.Mathlib.Omega.{arith}
+use borrow.Author.Tests.{eq-eqb, ne_eqb}
 use lib.ListN.{get_or}
 use Rattle.counter.specs.Contract.{mark_in}
 use Rattle.counter.specs.Body.{body_asks, body_inside, body_kind, body_kids}
@@ -41,7 +42,7 @@ returns-then-id-eq-NONE c =
     let a = c.args in
     let p = c.requires in
     plan_from c.class_body-b.result c.children_at.result (body_kids a.ws.now p.7 (a.at + 1) p.5 p.6 c.class_body-b.ensures) c.children_at.ensures.0 c.class_id-id.ensures.0 (p.2.classes (a.at + 1) p.5 p.6) c.private_at-private.ensures c.has_static-fixed.ensures c.call_count_at-calls.ensures
-    (found_nameless (mark_in (get_or a.notes.now a.at 0)) a.s.next a.s.default _ p.3 p.4 c.class_id-id.ensures.1 c.if-decorated.true-raw c.if-id-eq-NONE.true (c.symbol_of.ensures.0 (inr (omega (arith, p.3)))) refl refl)
+    (found_nameless (mark_in (get_or a.notes.now a.at 0)) a.s.next a.s.default _ p.3 p.4 c.class_id-id.ensures.1 (eq-eqb _ 1 c.if-decorated.true) c.if-id-eq-NONE.true (c.symbol_of.ensures.0 (inr (omega (arith, p.3)))) refl refl)
 
 pub alias_of-requires : goal.alias_of-requires
 alias_of-requires c = (omega (arith, c.requires.2.ends.long, c.requires.1), c.requires.3)
@@ -51,11 +52,11 @@ returns-then-decorated c =
     let a = c.args in
     let p = c.requires in
     plan_from c.class_body-b.result c.children_at.result (body_kids a.ws.now p.7 (a.at + 1) p.5 p.6 c.class_body-b.ensures) c.children_at.ensures.0 c.class_id-id.ensures.0 (p.2.classes (a.at + 1) p.5 p.6) c.private_at-private.ensures c.has_static-fixed.ensures c.call_count_at-calls.ensures
-    (found_named (mark_in (get_or a.notes.now a.at 0)) a.s.next a.s.default _ p.3 p.4 c.class_id-id.ensures.1 c.if-decorated.true-raw c.if-id-eq-NONE.false refl refl c.alias_of.ensures.0 c.alias_of.ensures.1)
+    (found_named (mark_in (get_or a.notes.now a.at 0)) a.s.next a.s.default _ p.3 p.4 c.class_id-id.ensures.1 (eq-eqb _ 1 c.if-decorated.true) c.if-id-eq-NONE.false refl refl c.alias_of.ensures.0 c.alias_of.ensures.1)
 
 pub returns : goal.returns
 returns c =
     let a = c.args in
     let p = c.requires in
     plan_from c.class_body-b.result c.children_at.result (body_kids a.ws.now p.7 (a.at + 1) p.5 p.6 c.class_body-b.ensures) c.children_at.ensures.0 c.class_id-id.ensures.0 (p.2.classes (a.at + 1) p.5 p.6) c.private_at-private.ensures c.has_static-fixed.ensures c.call_count_at-calls.ensures
-    (found_undecorated (mark_in (get_or a.notes.now a.at 0)) a.s.next a.s.default _ p.3 p.4 c.class_id-id.ensures.1 c.if-decorated.false-raw c.symbol_of-2.ensures.1 refl)
+    (found_undecorated (mark_in (get_or a.notes.now a.at 0)) a.s.next a.s.default _ p.3 p.4 c.class_id-id.ensures.1 (ne_eqb _ 1 c.if-decorated.false) c.symbol_of-2.ensures.1 refl)
