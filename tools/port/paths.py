@@ -1,5 +1,5 @@
 #!/usr/bin/env python3
-"""Lists what README.md, docs/*.md (but PORT.md, which speaks of what was) and include/ name that isn't in the tree: paths, and words between backticks. Run at the top: python3 tools/port/paths.py
+"""Lists what README.md, docs/*.md (but PORT.md and DESIGN-PASS.md, which speak of what was) and include/ name that isn't in the tree: paths, and words between backticks. Run at the top: python3 tools/port/paths.py
 
 A path counts as it stands from the top, below crates/, or below the crate that the line's file speaks of; {a,b} stands for both. A word counts if it
 stands in any file of the tree but the .md ones. Its last line is 'N are not there'; it ends with 1 where N isn't 0.
@@ -43,7 +43,7 @@ def main():
     known = set(re.findall(r"[\w'-]+|[\w']+", "\n".join(text)))
     known |= {w for it in known for w in it.split("-")}
     lost = 0
-    for page in ["README.md", *sorted([p for p in glob.glob("docs/*.md") if p != "docs/PORT.md"]), *sorted(glob.glob("include/*"))]:
+    for page in ["README.md", *sorted([p for p in glob.glob("docs/*.md") if p not in ("docs/PORT.md", "docs/DESIGN-PASS.md")]), *sorted(glob.glob("include/*"))]:
         with open(page, encoding="utf-8") as f:
             for number, line in enumerate(f, 1):
                 for path in re.findall(r"[\w.]+(?:/[\w.+-]+)*/(?:\{[\w, .]+\}|[\w.+*-]+)(?:\.antt)?", line):

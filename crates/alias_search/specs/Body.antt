@@ -3,12 +3,14 @@ use Rattle.std.proofs.Math.Path.{◌≡◌, refl, ap}
 use Rattle.std.proofs.Common.{sym, subst, ◌∙◌, arith}
 use Rattle.std.specs.Prelude.{Bool, ◌&&◌, ◌||◌, not, cond, ℕ}
 use Rattle.std.proofs.Math.Bool.{true, false}
-use Rattle.std.proofs.Math.Option.{none, some}
+use Rattle.std.specs.declared.option.Option.TheVariants.{None as none, Some as some}
 use Rattle.words.specs.Table.{lookup}
 use Rattle.records.specs.Forest.{end, node, append_f, append_f_end}
 use Rattle.records.specs.Label.{Label, Trees, is, ◌∶◌}
 use Rattle.rewriting.specs.Parts.{tree, plain, role_of, kids_of, is_member, elements_of, symbol_if, id_of}
-use Rattle.rewriting.specs.Visit.{Around, State, own, kept, since, work, inside, entering, visit, visit_one, visit_end}
+use Rattle.rewriting.specs.Visit.{own, kept, since, work, inside, entering, visit, visit_one, visit_end}
+use Rattle.rewriting.specs.declared.Around.{Around}
+use Rattle.rewriting.specs.declared.State.{State}
 use Rattle.alias_search.specs.Mentions.{is_other}
 use Rattle.alias_search.specs.Visited.{here_node, calls_node}
 use Rattle.alias_search.specs.Older.{Older, one_older}

@@ -4,14 +4,16 @@ use Rattle.std.specs.Prelude.{◌≡◌, ◌&&◌, ◌||◌, cond}
 use Rattle.std.proofs.Math.Path.{refl, ap, sym}
 use Rattle.std.proofs.Common.{◌∙◌, arith}
 use Rattle.std.proofs.Math.Bool.{Bool, true, false, or-true, or-false, or_assoc, or_comm}
-use Rattle.std.proofs.Math.Option.{Option, none, some}
+use Rattle.std.specs.declared.option.Option.{Option}
+use Rattle.std.specs.declared.option.Option.TheVariants.{None as none, Some as some}
 use Prim.Native.Nat.{ℕ, zero, suc, ◌<◌}
 use Rattle.std.proofs.Math.Dec.{eqb}
 use borrow.Author.Tests.{eqb-true}
 use Rattle.records.specs.Forest.{end, node, take_f, drop_f, append_f, count_f, any_f, map_f, any_f_append, take_drop}
 use Rattle.records.specs.Label.{Label, Trees, is, repay, become, ◌∶◌}
 use Rattle.rewriting.specs.Parts.{tree, is_empty, recount, kids_of, decorators, undecorate, elements_of, with_elements, id_of, has_private_in, has_static, first_constructor, bare_first}
-use Rattle.rewriting.specs.Visit.{State, Symbols, is_ref, to_alias, renamed, named_symbols, symbols_of, aliased, assignment, array, block_alias, let_alias, alias_block, call_block, queued, export, first_payload, with_id, decorated_statement, decorated₁, decorated₂, name_class, extend_body, undecorated_if, live_class_if}
+use Rattle.rewriting.specs.Visit.{Symbols, is_ref, to_alias, renamed, named_symbols, symbols_of, aliased, assignment, array, block_alias, let_alias, alias_block, call_block, queued, export, first_payload, with_id, decorated_statement, decorated₁, decorated₂, name_class, extend_body, undecorated_if, live_class_if}
+use Rattle.rewriting.specs.declared.State.{State}
 use Rattle.inspect.specs.Row.{or_left, or_right}
 use Rattle.alias_search.specs.Ors.{ors}
 use Rattle.alias_search.specs.Mentions.{Mode, whole, gone, lead, until, elements, behind, within, searched, seek, seek_gone, is_other, is_symbol, of_field, of_method}

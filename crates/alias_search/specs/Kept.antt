@@ -1,13 +1,15 @@
 -- A record that keeps its children: the visit puts in its place one record of its kind over its children as visited. Assumes nothing.
 use Rattle.std.specs.Prelude.{◌≡◌, refl, Bool, true, false, ◌&&◌, ◌||◌, ℕ, eqb}
 use Rattle.std.proofs.Common.{ap, ◌∙◌, arith}
-use Rattle.std.proofs.Math.Option.{Option}
+use Rattle.std.specs.declared.option.Option.{Option}
 use Rattle.words.specs.Table.{lookup}
 use Rattle.words.specs.Word.{bit1}
 use Rattle.records.specs.Forest.{end, node, append_f, count_f}
 use Rattle.records.specs.Label.{Label, Trees, is, bit, repay}
 use Rattle.rewriting.specs.Parts.{tree, recount, Role, module', list, statement, expression, method, constructor, plain, field, role_of, is_constructor}
-use Rattle.rewriting.specs.Visit.{Around, State, Result, is_ref, own, kept, dead_class, since, work, inside, entering, visit, visit_one}
+use Rattle.rewriting.specs.Visit.{Result, is_ref, own, kept, dead_class, since, work, inside, entering, visit, visit_one}
+use Rattle.rewriting.specs.declared.Around.{Around}
+use Rattle.rewriting.specs.declared.State.{State}
 use Rattle.alias_search.specs.Mentions.{Mode, searched, within, behind}
 use Rattle.alias_search.specs.Shown.{Alike, alike_same, is_repay, shows, shows_alike, all}
 use Rattle.alias_search.specs.Visited.{here_node}

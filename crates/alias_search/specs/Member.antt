@@ -9,7 +9,9 @@ use Rattle.words.specs.Word.{bit0}
 use Rattle.records.specs.Forest.{end, node, take_f, drop_f, append_f, count_f, any_f, any_f_append, take_drop, drop_f_add}
 use Rattle.records.specs.Label.{Label, Trees, is, bit, repay, ◌∶◌}
 use Rattle.rewriting.specs.Parts.{tree, change_kids, undecorate, bare_method, is_plain_key, first_is_plain, has_plain_key}
-use Rattle.rewriting.specs.Visit.{Around, State, Result, class_symbol, plain_name, name_if, name_of, prefix, array, member_call, with_key, called₁, called₂, member_if, is_ref, visit, visit_one, visit_end}
+use Rattle.rewriting.specs.Visit.{Result, class_symbol, plain_name, name_if, name_of, prefix, array, member_call, with_key, called₁, called₂, member_if, is_ref, visit, visit_one, visit_end}
+use Rattle.rewriting.specs.declared.Around.{Around}
+use Rattle.rewriting.specs.declared.State.{State}
 use Rattle.alias_search.specs.Mentions.{is_other, is_symbol}
 use Rattle.alias_search.specs.Shown.{made_any, ref_9, tree_any}
 use Rattle.alias_search.specs.Visited.{here_node}

@@ -3,7 +3,8 @@ use Rattle.std.specs.Prelude.{◌≡◌, Bool, ◌&&◌, ◌||◌, not, cond, �
 use Rattle.std.proofs.Math.Path.{refl}
 use Rattle.std.proofs.Common.{sym, eqb-true}
 use Rattle.std.proofs.Math.Bool.{true, false, or_assoc}
-use Rattle.std.proofs.Math.Option.{Option, none, some}
+use Rattle.std.specs.declared.option.Option.{Option}
+use Rattle.std.specs.declared.option.Option.TheVariants.{None as none, Some as some}
 use Rattle.records.specs.Forest.{end, node}
 use Rattle.records.specs.Label.{Label, Trees, is}
 use Rattle.rewriting.specs.Parts.{Role, module', list, statement, expression, method, constructor, plain, field, role_of, kids_of, is_constructor, is_decorated_member, elements_of, id_of, has_private_in, is_decorated, is_live, class_kids}

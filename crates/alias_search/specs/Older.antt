@@ -3,13 +3,16 @@
 use Rattle.std.specs.Prelude.{◌≡◌, Bool, ℕ, ◌<◌, eqb}
 use Rattle.std.proofs.Math.Path.{refl}
 use Rattle.std.proofs.Math.Bool.{true, false}
-use Rattle.std.proofs.Math.Option.{Option, none, some}
+use Rattle.std.specs.declared.option.Option.{Option}
+use Rattle.std.specs.declared.option.Option.TheVariants.{None as none, Some as some}
 use native.Mathlib.Omega.{arith}
 use Rattle.std.proofs.Common.{ne_eqb}
 use Rattle.records.specs.Forest.{end, node, any_f}
 use Rattle.records.specs.Label.{Label, Trees}
 use Rattle.rewriting.specs.Parts.{Role, module', list, statement, expression, method, constructor, plain, field, role_of, elements_of, is_decorated, is_live, id_of, class_kids}
-use Rattle.rewriting.specs.Visit.{Around, State, Result, class_symbol, name_if, name_of, called₁, called₂, member_if, member, is_ref, named_symbols, symbols_of, decorated₁, decorated₂, live_class_if, live_class, dead_class, class_if, kept, own, since, work, inside, entering, visit, visit_one, visit_end}
+use Rattle.rewriting.specs.Visit.{Result, class_symbol, name_if, name_of, called₁, called₂, member_if, member, is_ref, named_symbols, symbols_of, decorated₁, decorated₂, live_class_if, live_class, dead_class, class_if, kept, own, since, work, inside, entering, visit, visit_one, visit_end}
+use Rattle.rewriting.specs.declared.Around.{Around}
+use Rattle.rewriting.specs.declared.State.{State}
 use Rattle.alias_search.specs.Visited.{after_node}
 use Rattle.alias_search.specs.Mentions.{is_symbol}
 

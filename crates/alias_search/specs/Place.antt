@@ -8,7 +8,9 @@ use Rattle.records.specs.Forest.{end, node, drop_f, append_f, any_f, take_drop}
 use Rattle.records.specs.Label.{Trees}
 use Rattle.records.specs.Place.{records_at, label_at, arity_at, kids_at, records_node, records_past}
 use Rattle.rewriting.specs.Parts.{elements_of}
-use Rattle.rewriting.specs.Visit.{Around, State, is_ref, visit}
+use Rattle.rewriting.specs.Visit.{is_ref, visit}
+use Rattle.rewriting.specs.declared.Around.{Around}
+use Rattle.rewriting.specs.declared.State.{State}
 use Rattle.inspect.specs.Child.{kind_within}
 use Rattle.inspect.specs.Row.{by_end}
 use Rattle.alias_search.specs.Mentions.{mentions}

@@ -2,12 +2,14 @@
 use Rattle.std.specs.Prelude.{◌≡◌, Bool, true, false, ◌&&◌, not, ℕ, eqb}
 use Rattle.std.proofs.Math.Path.{refl}
 use Rattle.std.proofs.Common.{ap, ◌∙◌, arith}
-use Rattle.std.proofs.Math.Option.{Option}
+use Rattle.std.specs.declared.option.Option.{Option}
 use Rattle.words.specs.Table.{lookup}
 use Rattle.records.specs.Forest.{end, node, append_f}
 use Rattle.records.specs.Label.{Label, Trees, is}
 use Rattle.rewriting.specs.Parts.{Role, module', list, statement, expression, method, constructor, plain, field, role_of, is_member, is_decorated, is_live, class_kids}
-use Rattle.rewriting.specs.Visit.{Around, State, Result, own, kept, dead_class, class_if, live_class, live_class_if, decorated₁, decorated₂, since, work, inside, entering, visit, visit_one, visit_end}
+use Rattle.rewriting.specs.Visit.{Result, own, kept, dead_class, class_if, live_class, live_class_if, decorated₁, decorated₂, since, work, inside, entering, visit, visit_one, visit_end}
+use Rattle.rewriting.specs.declared.Around.{Around}
+use Rattle.rewriting.specs.declared.State.{State}
 use Rattle.alias_search.specs.Mentions.{is_other}
 use Rattle.alias_search.specs.Visited.{calls_node}
 use Rattle.alias_search.specs.Roles.{role_at, tag, keeps, not_kind, Sort, a_module, a_statement, a_method, a_field, kept_one, sort_of}

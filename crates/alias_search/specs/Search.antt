@@ -3,7 +3,8 @@ use Rattle.std.proofs.Math.Path.{◌≡◌, refl, ap, sym, subst}
 use Rattle.std.proofs.Common.{◌∙◌}
 use Rattle.std.specs.Prelude.{Bool, ◌&&◌, ◌||◌, cond, ℕ}
 use Rattle.std.proofs.Math.Bool.{true, false, not, or-true, or-false, or_assoc, and-false, and-true, and-or_distrib_left}
-use Rattle.std.proofs.Math.Option.{Option, some}
+use Rattle.std.specs.declared.option.Option.{Option}
+use Rattle.std.specs.declared.option.Option.TheVariants.{Some as some}
 use native.Mathlib.Omega.{arith}
 use borrow.Author.Tests.{not-false}
 use Rattle.words.specs.Table.{lookup}
@@ -11,7 +12,9 @@ use Rattle.words.specs.Word.{bit1}
 use Rattle.records.specs.Forest.{end, node, append_f, count_f, any_f, append_f_end, any_f_append}
 use Rattle.records.specs.Label.{Label, Trees, is, bit, repay, ◌∶◌}
 use Rattle.rewriting.specs.Parts.{tree, is_empty, Role, module', statement, method, plain, field, role_of, decorators, kids_of, decorators_of, bare_method, bare_field, is_constructor, is_member, is_decorated_member, has_plain_key, elements_of, id_of, has_private_in, is_decorated, is_live, class_kids}
-use Rattle.rewriting.specs.Visit.{Around, State, Result, is_ref, called₁, called₂, member_if, member, own, class_if, live_class, live_class_if, dead_class, whole_module, since, work, inside, entering, visit, visit_one, visit_end}
+use Rattle.rewriting.specs.Visit.{Result, is_ref, called₁, called₂, member_if, member, own, class_if, live_class, live_class_if, dead_class, whole_module, since, work, inside, entering, visit, visit_one, visit_end}
+use Rattle.rewriting.specs.declared.Around.{Around}
+use Rattle.rewriting.specs.declared.State.{State}
 use Rattle.inspect.specs.Row.{any_row}
 use Rattle.alias_search.specs.Ors.{ors}
 use Rattle.alias_search.specs.Mentions.{Mode, whole, gone, lead, until, each, elements, behind, within, searched, seek_gone, seek_lead, is_other, is_symbol, of_field, of_method, of_elements, of_class, names, mentions_word, mode_of, inner, mentions_by, mentions}

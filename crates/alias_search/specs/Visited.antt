@@ -3,7 +3,9 @@ use Rattle.std.specs.Prelude.{◌≡◌}
 use Rattle.std.proofs.Math.Path.{ap}
 use Rattle.records.specs.Forest.{node, append_f}
 use Rattle.records.specs.Label.{Label, Trees}
-use Rattle.rewriting.specs.Visit.{Around, State, Result, join, ◌then◌, visit, visit_one, visit_node}
+use Rattle.rewriting.specs.Visit.{Result, join, ◌then◌, visit, visit_one, visit_node}
+use Rattle.rewriting.specs.declared.Around.{Around}
+use Rattle.rewriting.specs.declared.State.{State}
 
 module _ (around : Around) (l : Label) (k r : Trees) (s : State) where
   pub here_node : (visit around (node l k r) s).here ≡ append_f (visit_one around l k s).here (visit around r (visit_one around l k s).after).here

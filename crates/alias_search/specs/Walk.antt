@@ -1,77 +1,80 @@
--- The search by place: the laws of its loops over the k records at a place, and of its steps into a record. Assumes nothing.
-use Rattle.std.specs.Prelude.{◌≡◌, Bool, ◌&&◌, ◌||◌, not, cond, List, eqb, ltb, length}
+-- The search by reader: the laws of its loops over the records that a reader has left, and of its steps into a record. Assumes nothing.
+use Rattle.std.specs.Prelude.{◌≡◌, Bool, ◌&&◌, ◌||◌, not, cond, List, [], ◌⊎◌, eqb, length}
 use Rattle.std.proofs.Math.Path.{refl, ap, sym}
 use Rattle.std.proofs.Common.{◌∙◌, arith}
-use Rattle.std.proofs.Math.Bool.{true, false, or-false, or_assoc}
-use Rattle.std.proofs.Math.Option.{Option, none, some}
+use Rattle.std.proofs.Math.Bool.{true, false, or-false}
+use Rattle.std.specs.Option.{option_eq}
+use Rattle.std.specs.declared.option.Option.{Option}
+use Rattle.std.specs.declared.option.Option.TheVariants.{None as none, Some as some}
+use mathlib.Core.Logic.{inl, inr}
 use Prim.Native.Nat.{ℕ, zero, suc, ◌+◌, ◌-◌, ◌<◌, ◌≤◌}
-use borrow.Author.Tests.{eq-eqb, ne_eqb, eqb-true, ltb-true, ltb-false}
+use borrow.Author.Tests.{eq-eqb, ne_eqb, eqb-true, eqb-false}
 use Rattle.words.specs.Table.{lookup}
 use Rattle.words.specs.Word.{bit1}
-use Rattle.records.specs.Forest.{end, node, take_f, append_f, take_f_end}
+use Rattle.records.specs.Forest.{end, node, take_f}
 use Rattle.records.specs.Label.{Label, Trees, is, bit}
-use Rattle.records.specs.Place.{records_at, label_at, arity_at, kids_at, end_of, end_low, record_one, records_first, records_past}
-use Rattle.rewriting.specs.Parts.{kids_of, Role, module', statement, method, constructor, role_of, is_constructor, is_decorated_member, elements_of, id_of, has_private_in, is_decorated, is_live, class_kids}
+use Rattle.records.specs.Place.{records_at, label_at, kids_at, end_of, record_one, records_first, records_past}
+use Rattle.rewriting.specs.Parts.{Role, module', statement, method, constructor, role_of, is_constructor, is_decorated_member, parameters_of, elements_of, id_of, has_private_in, is_decorated, is_live, class_kids}
 use Rattle.rewriting.specs.Visit.{is_ref}
-use Rattle.inspect.specs.Row.{any_row, count_row, count_none, count_some, before, before_most, by_end, true_false, or_left, or_right, before_place, before_all, before_others, before_row}
-use Rattle.inspect.specs.Child.{Found, opt_of, opt_some, kind_within, kids_row}
-use Rattle.inspect.specs.Class.{constructs, count_called, class_row, class_kids_lem, live_past}
-use Rattle.alias_search.specs.Mentions.{Mode, whole, gone, lead, until, each, elements, behind, within, searched, seek, seek_lead, of_field, of_method, of_elements, of_class, is_symbol, names, mentions_word, mode_of, inner, mentions_by, mentions_record, mentions}
+use Rattle.inspect.specs.Row.{any_row, count_row, count_none, count_some, by_end, true_false}
+use Rattle.inspect.specs.Child.{kind_within}
+use Rattle.inspect.specs.Class.{count_called, class_row, class_kids_lem, live_past}
+use Rattle.inspect.specs.Reads.{Reads, Step, left, rest, reads_rest, step_rest, step_low, rest_none}
+use Rattle.inspect.specs.declared.reading.Reader.{Reader}
+use Rattle.alias_search.specs.Mentions.{Mode, whole, gone, lead, until, each, elements, behind, within, searched, seek_lead, of_field, of_method, of_elements, of_class, is_symbol, names, mentions_word, mode_of, inner, mentions_by, mentions_record, mentions}
 use Rattle.alias_search.specs.Shown.{and_left}
 use Rattle.alias_search.specs.Roles.{role_at, role_kind, others}
 use Rattle.alias_search.specs.Read.{mentions_node, mentions_end, mentions_gone, kept_mode}
+
+-- a row without its first record, if that is a 28
+unfoldable pub but_28 : Trees → Trees
+but_28 end = end
+but_28 (node l k r) = cond (is 28 l) r (node l k r)
 
 -- the first record of a row that is searched in a mode
 unfoldable pub part : ℕ → Mode → Label → Trees → Bool
 part c x l kids = (searched x && mentions_word c l kids) || mentions_by c (within (inner c) x l kids) kids
 
-module _ (c : ℕ) (x : Mode) (ws : List ℕ) where
-  pub mentions_first : (at n : ℕ) → at < length ws →
-      mentions_by c x (take_f (suc n) (records_at ws at)) ≡ (part c x (label_at ws at) (kids_at ws at) || mentions_by c (behind x (label_at ws at)) (take_f n (records_at ws (end_of ws at 1))))
-  unfolding part
-  mentions_first at n h = ap (mentions_by c x) (records_first ws at n h) ∙ mentions_node c x (label_at ws at) (kids_at ws at) (take_f n (records_at ws (end_of ws at 1)))
+pub mentions_first : (c : ℕ) (x : Mode) (l : Label) (k r : Trees) → mentions_by c x (node l k r) ≡ (part c x l k || mentions_by c (behind x l) r)
+unfolding part
+mentions_first c x l k r = mentions_node c x l k r
 
--- ---- a loop over the k records at `at`: i of them are behind and hold nothing, the next stands at q
+-- ---- a loop over the records that the reader r has left: the ones passed hold nothing, and s has the others left
 
-pub record Left (c : ℕ) (x : Mode) (ws : List ℕ) (at k q i : ℕ) : Type 0 where
-  pub most : i ≤ k
-  pub low : at ≤ q
-  pub same : mentions_by c x (take_f k (records_at ws at)) ≡ mentions_by c x (take_f (k - i) (records_at ws q))
+pub record Left (c : ℕ) (x : Mode) (r s : Reader) : Type 0 where
+  pub words : s.words.now ≡ r.words.now
+  pub low : r.at ≤ s.at
+  pub same : mentions_by c x (rest r) ≡ mentions_by c x (rest s)
 
-module _ (c : ℕ) (x : Mode) (ws : List ℕ) (at k : ℕ) where
-  pub left_start : Left c x ws at k at 0
-  left_start = let e : k ≡ k - 0 = omega arith in record { most = omega arith; low = omega arith; same = ap (λ (n : ℕ). mentions_by c x (take_f n (records_at ws at))) e }
+module _ (c : ℕ) (x : Mode) where
+  module _ {r s : Reader} (a : Left c x r s) where
+    module _ {q : ℕ} {t : Reader} (p : Step s q t) where
+      -- the next record and what follows it
+      pub left_split : mentions_by c x (rest r) ≡ (part c x (label_at r.words.now q) (kids_at r.words.now q) || mentions_by c (behind x (label_at r.words.now q)) (rest t))
+      left_split =
+          let row : rest s ≡ node (label_at r.words.now q) (kids_at r.words.now q) (rest t) = rw (p.words, ← a.words) (step_rest p) in
+          a.same ∙ ap (mentions_by c x) row ∙ mentions_first c x (label_at r.words.now q) (kids_at r.words.now q) (rest t)
 
-  module _ {q i : ℕ} (a : Left c x ws at k q i) where
-    -- the next record and what follows it
-    pub left_split : i < k → q < length ws →
-        mentions_by c x (take_f k (records_at ws at)) ≡ (part c x (label_at ws q) (kids_at ws q) || mentions_by c (behind x (label_at ws q)) (take_f (k - i - 1) (records_at ws (end_of ws q 1))))
-    left_split h g =
-        let n : k - i ≡ suc (k - i - 1) = omega arith in
-        a.same ∙ ap (λ (m : ℕ). mentions_by c x (take_f m (records_at ws q))) n ∙ mentions_first c x ws q (k - i - 1) g
+      -- it holds what is looked for
+      pub left_hit : part c x (label_at r.words.now q) (kids_at r.words.now q) ≡ true → mentions_by c x (rest r) ≡ true
+      left_hit e = left_split ∙ rw e
 
-    -- it holds what is looked for
-    pub left_hit : i < k → q < length ws → part c x (label_at ws q) (kids_at ws q) ≡ true → mentions_by c x (take_f k (records_at ws at)) ≡ true
-    left_hit h g e = left_split h g ∙ rw e
+      -- it doesn't
+      pub left_next : part c x (label_at r.words.now q) (kids_at r.words.now q) ≡ false → behind x (label_at r.words.now q) ≡ x → Left c x r t
+      left_next e b = record { words = p.words ∙ a.words; low = omega (arith, a.low, p.place, step_low p); same = left_split ∙ rw (e, b) }
 
-    -- it doesn't
-    pub left_next : {q' : ℕ} → i < k → q < length ws → part c x (label_at ws q) (kids_at ws q) ≡ false → behind x (label_at ws q) ≡ x → q' ≡ end_of ws q 1 → Left c x ws at k q' (i + 1)
-    left_next {q'} h g e b p =
-        let n : k - i - 1 ≡ k - (i + 1) = omega arith in
-        record {
-          most = omega arith;
-          low = omega (arith, a.low, end_low ws q 1);
-          same = left_split h g ∙ rw (e, b) (ap (λ (m : ℕ). mentions_by c x (take_f m (records_at ws (end_of ws q 1)))) n ∙ ap (λ (r : ℕ). mentions_by c x (take_f (k - (i + 1)) (records_at ws r))) (sym p));
-        }
+    -- no record is left
+    pub left_end : left s ≡ [] → mentions_by c x (rest r) ≡ false
+    left_end e = a.same ∙ ap (mentions_by c x) (rest_none s e) ∙ mentions_end c x
 
-    -- the words end, or no record is left
-    pub left_past : length ws ≤ q → mentions_by c x (take_f k (records_at ws at)) ≡ false
-    left_past h = a.same ∙ ap (λ (f : Trees). mentions_by c x (take_f (k - i) f)) (records_past ws q h) ∙ ap (mentions_by c x) (take_f_end (k - i)) ∙ mentions_end c x
+-- what a reader reads
+module _ (c : ℕ) {r : Reader} {ws : List ℕ} {f : Trees} (e : Reads r ws f) where
+  pub by_reads : (x : Mode) → mentions_by c x (rest r) ≡ mentions_by c x f
+  by_reads x = ap (mentions_by c x) (reads_rest e)
 
-    pub left_all : k ≤ i → mentions_by c x (take_f k (records_at ws at)) ≡ false
-    left_all h =
-        let n : k - i ≡ 0 = omega arith in
-        a.same ∙ ap (λ (m : ℕ). mentions_by c x (take_f m (records_at ws q))) n ∙ (unfold take_f in mentions_end c x)
+  pub all_reads : mentions c (rest r) ≡ mentions_by c whole f
+  unfolding mentions
+  all_reads = by_reads whole
 
 -- ---- a record's own part, by mode
 
@@ -80,15 +83,9 @@ module _ (c : ℕ) (l : Label) (k : Trees) where
   unfolding part mentions_record searched within
   whole_part = refl
 
-  each_part : (x : Mode) → part c (each x) l k ≡ (mentions_word c l k || mentions_by c x k)
+  pub each_part : (x : Mode) → part c (each x) l k ≡ (mentions_word c l k || mentions_by c x k)
   unfolding part searched within
   each_part x = refl
-
-  pub each_word : (x : Mode) → mentions_word c l k ≡ true → part c (each x) l k ≡ true
-  each_word x e = each_part x ∙ rw e
-
-  pub each_kids : (x : Mode) {b : Bool} → mentions_word c l k ≡ false → mentions_by c x k ≡ b → part c (each x) l k ≡ b
-  each_kids x e h = each_part x ∙ rw (e, h)
 
   pub is_not : (n : ℕ) → (l.kind ≡ n → ⊥) → is n l ≡ false
   unfolding is
@@ -135,13 +132,20 @@ module _ (c : ℕ) (l : Label) (k : Trees) where
   unfolding inner
   by_role r e = ap (λ (r : Role). mode_of c r k) e
 
-  pub inner_31 : l.kind ≡ 31 → inner c l k ≡ of_field
+  inner_31 : l.kind ≡ 31 → inner c l k ≡ of_field
   unfolding role_at lookup mode_of
   inner_31 h = by_role _ (role_kind 31 l (is_yes 31 h))
 
-  pub inner_32 : l.kind ≡ 32 → inner c l k ≡ of_field
+  inner_32 : l.kind ≡ 32 → inner c l k ≡ of_field
   unfolding role_at lookup mode_of
   inner_32 h = by_role _ (role_kind 32 l (is_yes 32 h))
+
+  pub inner_field : 30 < l.kind → l.kind < 33 → inner c l k ≡ of_field
+  inner_field a b = go (eqb l.kind 31) refl
+    where
+      go : (t : Bool) → eqb l.kind 31 ≡ t → inner c l k ≡ of_field
+      go true e = inner_31 (eqb-true l.kind 31 e)
+      go false e = let n : l.kind ≡ 31 → ⊥ = eqb-false l.kind 31 e in inner_32 (omega (arith, n))
 
   flag_30 : l.kind ≡ 30 → bit bit1 l ≡ is_constructor l
   unfolding is_constructor
@@ -171,80 +175,88 @@ module _ (c : ℕ) (l : Label) (k : Trees) where
   inner_live h e = by_role statement (role_kind 4 l (is_yes 4 h)) ∙ rw e
 
 -- at the first record of a kind above 18, whose children aren't searched
-pub until_rest : (c n : ℕ) (ws : List ℕ) (at k : ℕ) {q i q' : ℕ} → Left c (until n gone) ws at k q i → i < k → q < length ws → 18 < n → (label_at ws q).kind ≡ n → q' ≡ end_of ws q 1 →
-    mentions_by c (until n gone) (take_f k (records_at ws at)) ≡ mentions c (take_f (k - i - 1) (records_at ws q'))
+pub until_rest : (c n : ℕ) {r s t : Reader} {q : ℕ} → Left c (until n gone) r s → Step s q t → 18 < n → (label_at r.words.now q).kind ≡ n → mentions_by c (until n gone) (rest r) ≡ mentions c (rest t)
 unfolding mentions
-until_rest c n ws at k {q} {i} a h g m e p =
-    let b = until_here c (label_at ws q) (kids_at ws q) n m e in
-    left_split c (until n gone) ws at k a h g ∙ rw (b.0, b.1) (ap (λ (r : ℕ). mentions_by c whole (take_f (k - i - 1) (records_at ws r))) (sym p))
+until_rest c n {r} {s} {t} {q} a p m e =
+    let b = until_here c (label_at r.words.now q) (kids_at r.words.now q) n m e in
+    left_split c (until n gone) a p ∙ rw (b.0, b.1)
 
--- ---- the children of the record at `at`
+-- ---- a row whose first record may be a 28
 
-module _ (c : ℕ) (ws : List ℕ) (at : ℕ) where
-  pub whole_kids : (n : ℕ) → n ≡ arity_at ws at → mentions c (take_f n (records_at ws (at + 1))) ≡ mentions_by c whole (kids_at ws at)
-  unfolding mentions
-  whole_kids n e = ap (mentions_by c whole) (kids_row ws at n e)
+-- without it
+pub lead_gone : (c : ℕ) (y : Mode) (f : Trees) → searched y ≡ true → mentions_by c (lead gone y) f ≡ mentions_by c y (but_28 f)
+unfolding but_28
+lead_gone c y end e = mentions_end c (lead gone y) ∙ sym (mentions_end c y)
+lead_gone c y (node l k r) e = mentions_first c (lead gone y) l k r ∙ go (is 28 l) refl
+  where
+    go : (b : Bool) → is 28 l ≡ b → (part c (lead gone y) l k || mentions_by c (behind (lead gone y) l) r) ≡ mentions_by c y (cond b r (node l k r))
+    go true h = let b = lead_yes c l k gone y (eqb-true l.kind 28 (unfold is in h)) in rw (b.0, b.1) (ap (◌|| mentions_by c y r) (mentions_gone c k))
+    go false h = let b = lead_not c l k gone y e (eqb-false l.kind 28 (unfold is in h)) in rw (b.0, b.1) (sym (mentions_first c y l k r))
 
-  pub kids_none : (x : Mode) → arity_at ws at ≡ 0 → mentions_by c x (kids_at ws at) ≡ false
-  unfolding kids_at take_f
-  kids_none x e = rw e (mentions_end c x)
+pub field_kids : (c : ℕ) (f : Trees) → mentions_by c of_field f ≡ mentions_by c whole (but_28 f)
+field_kids c f = lead_gone c whole f (unfold searched in refl)
 
-  -- a first child that is no 28
-  pub lead_other : (x y : Mode) → searched y ≡ true → ((label_at ws (at + 1)).kind ≡ 28 → ⊥) → mentions_by c (lead x y) (kids_at ws at) ≡ mentions_by c y (kids_at ws at)
-  unfolding kids_at
-  lead_other x y e h = go (arity_at ws at)
-    where
-      go : (n : ℕ) → mentions_by c (lead x y) (take_f n (records_at ws (at + 1))) ≡ mentions_by c y (take_f n (records_at ws (at + 1)))
-      go zero = unfold take_f in mentions_end c (lead x y) ∙ sym (mentions_end c y)
-      go (suc n) = by_end ws (at + 1)
-          (λ g. mentions_first c (lead x y) ws (at + 1) n g
-          ∙ rw ((lead_not c (label_at ws (at + 1)) (kids_at ws (at + 1)) x y e h).0, (lead_not c (label_at ws (at + 1)) (kids_at ws (at + 1)) x y e h).1) (sym (mentions_first c y ws (at + 1) n g)))
-          (λ g. rw (records_past ws (at + 1) g, take_f_end {A = Label} (suc n)) (mentions_end c (lead x y) ∙ sym (mentions_end c y)))
+-- with it
+pub lead_whole : (c n : ℕ) (f : Trees) → eqb 28 n ≡ false → mentions_by c (lead whole (until n gone)) f ≡ mentions_by c (until n gone) f
+unfolding searched
+lead_whole c n end e = mentions_end c (lead whole (until n gone)) ∙ sym (mentions_end c (until n gone))
+lead_whole c n (node l k r) e = mentions_first c (lead whole (until n gone)) l k r ∙ go (is 28 l) refl ∙ sym (mentions_first c (until n gone) l k r)
+  where
+    go : (b : Bool) → is 28 l ≡ b →
+        (part c (lead whole (until n gone)) l k || mentions_by c (behind (lead whole (until n gone)) l) r) ≡ (part c (until n gone) l k || mentions_by c (behind (until n gone) l) r)
+    go true h =
+        let is28 : l.kind ≡ 28 = eqb-true l.kind 28 (unfold is in h) in
+        let other : l.kind ≡ n → ⊥ = λ m. eqb-false 28 n e (sym is28 ∙ m) in
+        let b = lead_yes c l k whole (until n gone) is28 in
+        let u = until_other c l k n other in
+        let word : mentions_word c l k ≡ false = no_word c l k (λ e. omega arith) (λ e. omega arith) (λ e. omega arith) in
+        let kids : inner c l k ≡ whole = inner_other c l k (λ e. omega arith) (λ e. omega arith) (λ e. omega arith) (λ e. omega arith) in
+        rw (b.0, b.1, u.0, u.1) (ap (◌|| mentions_by c (until n gone) r) (sym (record_kids c l k word kids)))
+    go false h = let b = lead_not c l k whole (until n gone) refl (eqb-false l.kind 28 (unfold is in h)) in rw (b.0, b.1)
 
-  -- a first child that is one: its own children, and the others
-  pub lead_28 : (x y : Mode) (n : ℕ) → n ≡ arity_at ws at → (n ≡ 0 → ⊥) → (label_at ws (at + 1)).kind ≡ 28 →
-      mentions_by c (lead x y) (kids_at ws at) ≡ (mentions_by c x (kids_at ws (at + 1)) || mentions_by c y (take_f (n - 1) (records_at ws (end_of ws (at + 1) 1))))
-  lead_28 x y n e h g =
-      let more : n ≡ suc (n - 1) = omega arith in
-      ap (mentions_by c (lead x y)) (sym (kids_row ws at n e) ∙ ap (λ (m : ℕ). take_f m (records_at ws (at + 1))) more)
-      ∙ mentions_first c (lead x y) ws (at + 1) (n - 1) (kind_within ws (at + 1) 27 g)
-      ∙ rw ((lead_yes c (label_at ws (at + 1)) (kids_at ws (at + 1)) x y g).0, (lead_yes c (label_at ws (at + 1)) (kids_at ws (at + 1)) x y g).1)
+module _ (ws : List ℕ) (at : ℕ) where
+  but_28_row : (n : ℕ) → (label_at ws at).kind ≡ 28 → but_28 (take_f n (records_at ws at)) ≡ take_f (n - 1) (records_at ws (end_of ws at 1))
+  unfolding but_28 take_f
+  but_28_row zero k = refl
+  but_28_row (suc n) k =
+      let one : suc n - 1 ≡ n = omega arith in
+      ap but_28 (records_first ws at n (kind_within ws at 27 k)) ∙ rw (is_yes 0 (label_at ws at) end 28 k, one)
 
-  pub lead_gone : (y : Mode) (n : ℕ) {q : ℕ} → n ≡ arity_at ws at → (n ≡ 0 → ⊥) → (label_at ws (at + 1)).kind ≡ 28 → q ≡ end_of ws (at + 1) 1 →
-      mentions_by c (lead gone y) (kids_at ws at) ≡ mentions_by c y (take_f (n - 1) (records_at ws q))
-  lead_gone y n e h g p =
-      lead_28 gone y n e h g ∙ rw (mentions_gone c (kids_at ws (at + 1))) (ap (λ (r : ℕ). mentions_by c y (take_f (n - 1) (records_at ws r))) (sym p))
+  but_28_none : (n : ℕ) → ((label_at ws at).kind ≡ 28 → ⊥) → but_28 (take_f n (records_at ws at)) ≡ take_f n (records_at ws at)
+  unfolding but_28 take_f
+  but_28_none zero h = refl
+  but_28_none (suc n) h = by_end ws at
+      (λ l. ap but_28 (records_first ws at n l) ∙ rw (is_not 0 (label_at ws at) end 28 h) (sym (records_first ws at n l)))
+      (λ l. rw (records_past ws at l))
 
-  pub lead_whole : (y : Mode) (n m : ℕ) {q : ℕ} {b : Bool} → n ≡ arity_at ws at → (n ≡ 0 → ⊥) → (label_at ws (at + 1)).kind ≡ 28 → q ≡ end_of ws (at + 1) 1 → m ≡ arity_at ws (at + 1) →
-      mentions c (take_f m (records_at ws (at + 1 + 1))) ≡ b → mentions_by c (lead whole y) (kids_at ws at) ≡ (b || mentions_by c y (take_f (n - 1) (records_at ws q)))
-  unfolding mentions
-  lead_whole y n m {q} {b} e h g p f i =
-      lead_28 whole y n e h g
-      ∙ rw (← (kids_row ws (at + 1) m f), i) (ap (λ (r : ℕ). b || mentions_by c y (take_f (n - 1) (records_at ws r))) (sym p))
+module _ {ws : List ℕ} {f : Trees} {r : Reader} (a : Reads r ws f) where
+  -- the reader behind it
+  pub reads_behind : (t : Reader) → (label_at ws r.at).kind ≡ 28 → (t.words ≡ r.words) × (t.at ≡ end_of r.words.now r.at 1) × (t.left ≡ r.left - 1) → Reads t ws (but_28 f)
+  reads_behind t k b =
+      let row : take_f (r.left - 1) (records_at ws (end_of ws r.at 1)) ≡ but_28 f = sym (but_28_row ws r.at r.left k) ∙ ap but_28 a.row in
+      record { words = rw b.0 a.words; row = rw (b.1, b.2, a.words) row }
 
+  -- the reader where there is none
+  pub reads_here : ((label_at ws r.at).kind ≡ 28 → ⊥) → Reads r ws (but_28 f)
+  reads_here h = record { words = a.words; row = sym (but_28_none ws r.at r.left h) ∙ ap but_28 a.row }
+
+-- ---- a method's children and a class's
+
+module _ (c : ℕ) (kids : Trees) where
   -- a method's parameters apart
-  method_apart : mentions_by c of_method (kids_at ws at) ≡ (mentions_by c (lead gone (until 36 gone)) (kids_at ws at) || mentions_by c (each of_field) (kids_of 36 (kids_at ws at)))
-  unfolding mentions_by
-  method_apart = seek_lead (mentions_word c) (inner c) 36 gone (each of_field) (kids_at ws at) refl
-
-  pub method_hit : mentions_by c (lead gone (until 36 gone)) (kids_at ws at) ≡ true → mentions_by c of_method (kids_at ws at) ≡ true
-  method_hit e = method_apart ∙ rw e
-
-  pub method_rest : mentions_by c (lead gone (until 36 gone)) (kids_at ws at) ≡ false → mentions_by c of_method (kids_at ws at) ≡ mentions_by c (each of_field) (kids_of 36 (kids_at ws at))
-  method_rest e = method_apart ∙ rw e
+  pub method_parts : mentions_by c of_method kids ≡ (mentions_by c (until 36 gone) (but_28 kids) || mentions_by c (each of_field) (parameters_of kids))
+  unfolding mentions_by parameters_of
+  method_parts = seek_lead (mentions_word c) (inner c) 36 gone (each of_field) kids refl ∙ ap (◌|| mentions_by c (each of_field) (parameters_of kids)) (lead_gone c (until 36 gone) kids (unfold searched in refl))
 
   -- a class's elements apart
-  class_apart : (rk : Trees) → mentions_by c (of_class c rk) rk
-      ≡ (mentions_by c (lead (cond (is_decorated rk && has_private_in rk) gone whole) (until 29 gone)) rk || mentions_by c (of_elements (is_decorated rk) (has_private_in rk) (is_symbol c (id_of rk))) (elements_of rk))
+  pub class_parts : mentions_by c (of_class c kids) kids
+      ≡ (mentions_by c (until 29 gone) (cond (is_decorated kids && has_private_in kids) (but_28 kids) kids) || mentions_by c (of_elements (is_decorated kids) (has_private_in kids) (is_symbol c (id_of kids))) (elements_of kids))
   unfolding mentions_by of_class elements_of
-  class_apart rk = seek_lead (mentions_word c) (inner c) 29 _ _ rk refl
-
-  pub class_hit : (rk : Trees) {b : Bool} → b ≡ (is_decorated rk && has_private_in rk) → mentions_by c (lead (cond b gone whole) (until 29 gone)) rk ≡ true → mentions_by c (of_class c rk) rk ≡ true
-  class_hit rk e h = class_apart rk ∙ rw (← e, h)
-
-  pub class_rest : (rk : Trees) {b : Bool} → b ≡ (is_decorated rk && has_private_in rk) → mentions_by c (lead (cond b gone whole) (until 29 gone)) rk ≡ false →
-      mentions_by c (of_class c rk) rk ≡ mentions_by c (of_elements (is_decorated rk) (has_private_in rk) (is_symbol c (id_of rk))) (elements_of rk)
-  class_rest rk e h = class_apart rk ∙ rw (← e, h)
+  class_parts = seek_lead (mentions_word c) (inner c) 29 _ _ kids refl ∙ ap (◌|| mentions_by c (of_elements (is_decorated kids) (has_private_in kids) (is_symbol c (id_of kids))) (elements_of kids)) (go (is_decorated kids && has_private_in kids))
+    where
+      go : (b : Bool) → mentions_by c (lead (cond b gone whole) (until 29 gone)) kids ≡ mentions_by c (until 29 gone) (cond b (but_28 kids) kids)
+      go true = lead_gone c (until 29 gone) kids (unfold searched in refl)
+      go false = lead_whole c 29 kids refl
 
 -- ---- the elements of a class, up to the first constructor
 
@@ -254,58 +266,15 @@ constructor_word c l k h =
     let i : l.kind ≡ 30 = eqb-true l.kind 30 (and_left (is 30 l) (bit bit1 l) h) in
     no_word c l k (λ e. omega arith) (λ e. omega arith) (λ e. omega arith)
 
-before_first : (c : ℕ) (y : Mode) (f : Trees) → any_row constructs f ≡ false → mentions_by c (elements y) f ≡ mentions_by c (each whole) f
-unfolding any_row constructs mentions_by seek searched within behind
-before_first c y end e = refl
-before_first c y (node l k r) e = rw (or_left (is_constructor l) (any_row constructs r) e, before_first c y r (or_right (is_constructor l) (any_row constructs r) e))
+module _ (c : ℕ) (y : Mode) (l : Label) (k : Trees) where
+  -- a constructor, and any other element before it
+  pub elements_first : is_constructor l ≡ true → (part c (elements y) l k ≡ mentions_by c y k) × (behind (elements y) l ≡ each whole)
+  unfolding part searched within behind
+  elements_first h = (rw (h, constructor_word c l k h), rw h)
 
-from_first : (c : ℕ) (y : Mode) (f : Trees) (l : Label) (k r : Trees) → any_row constructs f ≡ false → is_constructor l ≡ true →
-    mentions_by c (elements y) (append_f f (node l k r)) ≡ (mentions_by c (each whole) f || (mentions_by c y k || mentions_by c (each whole) r))
-unfolding any_row constructs append_f mentions_by seek searched within behind
-from_first c y end l k r e h = rw (h, constructor_word c l k h)
-from_first c y (node m j s) l k r e h =
-    rw (or_left (is_constructor m) (any_row constructs s) e, from_first c y s l k r (or_right (is_constructor m) (any_row constructs s) e) h)
-    (sym (or_assoc (mentions_word c m j || mentions_by c whole j) (mentions_by c (each whole) s) (mentions_by c y k || mentions_by c (each whole) r)))
-
-module _ (c : ℕ) (y : Mode) (ws : List ℕ) (at k j : ℕ) (e : j ≡ before constructs k (records_at ws at)) where
-  elements_none : k ≤ j → mentions_by c (elements y) (take_f k (records_at ws at)) ≡ mentions_by c (each whole) (take_f j (records_at ws at))
-  elements_none h =
-      let same : k ≡ j = omega (arith, before_most constructs k (records_at ws at)) in
-      before_first c y (take_f k (records_at ws at)) (before_all constructs ws at k j e h) ∙ ap (λ (n : ℕ). mentions_by c (each whole) (take_f n (records_at ws at))) same
-
-  elements_first : j < k → mentions_by c (elements y) (take_f k (records_at ws at))
-      ≡ (mentions_by c (each whole) (take_f j (records_at ws at)) || (mentions_by c y (kids_at ws (end_of ws at j)) || mentions_by c (each whole) (take_f (k - j - 1) (records_at ws (end_of ws (end_of ws at j) 1)))))
-  elements_first h =
-      ap (mentions_by c (elements y)) (before_row constructs ws at k j e h)
-      ∙ from_first c y (take_f j (records_at ws at)) _ _ _ (before_others constructs ws at k j e) (unfold constructs in (before_place constructs ws at k j e h).1)
-
-  -- found before it, or nowhere
-  pub elements_hit : mentions_by c (each whole) (take_f j (records_at ws at)) ≡ true → mentions_by c (elements y) (take_f k (records_at ws at)) ≡ true
-  elements_hit h = go (ltb j k) refl
-    where
-      go : (b : Bool) → ltb j k ≡ b → mentions_by c (elements y) (take_f k (records_at ws at)) ≡ true
-      go true i = elements_first (ltb-true j k i) ∙ rw h
-      go false i = elements_none (ltb-false j k i) ∙ h
-
-  pub elements_miss : mentions_by c (each whole) (take_f j (records_at ws at)) ≡ false → k ≤ j → mentions_by c (elements y) (take_f k (records_at ws at)) ≡ false
-  elements_miss h i = elements_none i ∙ h
-
-  -- found in it, or behind it
-  pub elements_there : {q : ℕ} → mentions_by c (each whole) (take_f j (records_at ws at)) ≡ false → j < k → q ≡ end_of ws at j → mentions_by c y (kids_at ws q) ≡ true →
-      mentions_by c (elements y) (take_f k (records_at ws at)) ≡ true
-  elements_there {q} h i p g =
-      let g' : mentions_by c y (kids_at ws (end_of ws at j)) ≡ true = ap (λ (r : ℕ). mentions_by c y (kids_at ws r)) (sym p) ∙ g in
-      elements_first i ∙ rw (h, g')
-
-  pub elements_behind : {q q' : ℕ} → mentions_by c (each whole) (take_f j (records_at ws at)) ≡ false → j < k → q ≡ end_of ws at j → mentions_by c y (kids_at ws q) ≡ false → q' ≡ end_of ws q 1 →
-      mentions_by c (elements y) (take_f k (records_at ws at)) ≡ mentions_by c (each whole) (take_f (k - j - 1) (records_at ws q'))
-  elements_behind {q} {q'} h i p g r =
-      let g' : mentions_by c y (kids_at ws (end_of ws at j)) ≡ false = ap (λ (n : ℕ). mentions_by c y (kids_at ws n)) (sym p) ∙ g in
-      let place : end_of ws (end_of ws at j) 1 ≡ q' = ap (λ (n : ℕ). end_of ws n 1) (sym p) ∙ sym r in
-      elements_first i ∙ rw (h, g') (ap (λ (n : ℕ). mentions_by c (each whole) (take_f (k - j - 1) (records_at ws n))) place)
-
-  pub first_place : j < k → end_of ws at j < length ws
-  first_place h = (before_place constructs ws at k j e h).0
+  pub elements_other : is_constructor l ≡ false → (part c (elements y) l k ≡ part c (each whole) l k) × (behind (elements y) l ≡ elements y)
+  unfolding part searched within behind
+  elements_other h = (rw h, rw h)
 
 -- the modes of a class's elements
 module _ (c : ℕ) (rk : Trees) where
@@ -327,54 +296,38 @@ module _ (c : ℕ) (rk : Trees) where
 
 -- ---- a class's id
 
-module _ (c r : ℕ) {o : Option ℕ} (e : opt_of r ≡ o) where
-  pub symbol_other : (r ≡ c → ⊥) → is_symbol c o ≡ false
-  symbol_other h = ap (is_symbol c) (sym e) ∙ (unfold opt_of in go (eqb r 67108864))
-    where
-      go : (b : Bool) → is_symbol c (cond b none (some r)) ≡ false
-      go true = unfold is_symbol in refl
-      go false = unfold is_symbol in ne_eqb r c h
+pub symbol_eq : (c : ℕ) (o : Option ℕ) → is_symbol c o ≡ option_eq eqb o (some c)
+unfolding is_symbol
+symbol_eq c none = refl
+symbol_eq c (some d) = refl
 
-  pub symbol_same : c < 67108864 → r ≡ c → is_symbol c o ≡ true
-  symbol_same g h =
-      let low : r < 67108864 = omega arith in
-      ap (is_symbol c) (sym e ∙ opt_some r low) ∙ (unfold is_symbol in eq-eqb r c h)
-
--- the class at `at` is named in what it puts behind itself
+-- a class is named in what it puts behind itself, by the number of its members' calls
 module _ (c : ℕ) (rk : Trees) where
-  pub names_other : is_symbol c (id_of rk) ≡ false → names c rk ≡ false
-  unfolding names
-  names_other e = rw e
-
-  pub names_call : is_symbol c (id_of rk) ≡ true → (count_called (elements_of rk) ≡ 0 → ⊥) → names c rk ≡ true
+  pub names_counted : names c rk ≡ (is_symbol c (id_of rk) && (not (eqb (count_called (elements_of rk)) 0) || (is_decorated rk && not (has_private_in rk))))
   unfolding names count_called
-  names_call e h = rw (e, go (any_row is_decorated_member (elements_of rk)) refl)
+  names_counted = rw (any_called (elements_of rk))
     where
-      go : (b : Bool) → any_row is_decorated_member (elements_of rk) ≡ b → b ≡ true
-      go true i = refl
-      go false i = absurd (h (count_none is_decorated_member (elements_of rk) i))
-
-  pub names_none : is_symbol c (id_of rk) ≡ true → count_called (elements_of rk) ≡ 0 → (b p : Bool) → is_decorated rk ≡ b → has_private_in rk ≡ p → names c rk ≡ (b && not p)
-  unfolding names count_called
-  names_none e h b p i j = rw (e, none_called (elements_of rk) h, i, j)
-    where
-      none_called : (f : Trees) → count_row is_decorated_member f ≡ 0 → any_row is_decorated_member f ≡ false
-      none_called f h = go (any_row is_decorated_member f) refl
+      any_called : (f : Trees) → any_row is_decorated_member f ≡ not (eqb (count_called f) 0)
+      any_called f = go (any_row is_decorated_member f) refl
         where
-          go : (b : Bool) → any_row is_decorated_member f ≡ b → any_row is_decorated_member f ≡ false
-          go true i = absurd (omega (arith, count_some is_decorated_member f i))
-          go false i = i
+          go : (b : Bool) → any_row is_decorated_member f ≡ b → b ≡ not (eqb (count_called f) 0)
+          go true e = let n : count_row is_decorated_member f ≡ 0 → ⊥ = λ z. absurd (omega (arith, count_some is_decorated_member f e)) in rw (ne_eqb (count_row is_decorated_member f) 0 n)
+          go false e = rw (count_none is_decorated_member f e)
 
 -- ---- a record's own word
 
 module _ (c : ℕ) (l : Label) (k : Trees) where
-  pub word_9 : l.kind ≡ 9 → mentions_word c l k ≡ eqb l.payload c
+  word_9 : l.kind ≡ 9 → mentions_word c l k ≡ eqb l.payload c
   unfolding mentions_word is_ref
   word_9 h = rw (is_yes c l k 9 h, is_not c l k 4 (λ e. omega arith), or-false)
 
-  pub word_18 : l.kind ≡ 18 → mentions_word c l k ≡ eqb l.payload c
+  word_18 : l.kind ≡ 18 → mentions_word c l k ≡ eqb l.payload c
   unfolding mentions_word is_ref
   word_18 h = rw (is_yes c l k 18 h, is_not c l k 9 (λ e. omega arith), is_not c l k 4 (λ e. omega arith), or-false)
+
+  pub word_named : (l.kind ≡ 9) ⊎ (l.kind ≡ 18) → mentions_word c l k ≡ eqb l.payload c
+  word_named (inl h) = word_9 h
+  word_named (inr h) = word_18 h
 
   pub word_4 : l.kind ≡ 4 → mentions_word c l k ≡ (is_live k && names c (class_kids k))
   unfolding mentions_word is_ref
@@ -386,33 +339,19 @@ module _ (c : ℕ) (ws : List ℕ) (at : ℕ) (h : (label_at ws at).kind ≡ 4) 
   pub statement_word : mentions_word c (label_at ws at) (kids_at ws at) ≡ (is_live (take_f 1 (records_at ws (at + 1))) && names c (kids_at ws (at + 1)))
   statement_word = word_4 c (label_at ws at) (kids_at ws at) h ∙ rw (class_kids_lem ws at h, class_row ws at h)
 
-  pub statement_dead : is_live (take_f 1 (records_at ws (at + 1))) ≡ false →
-      mentions_by c (inner c (label_at ws at) (kids_at ws at)) (kids_at ws at) ≡ mentions c (take_f 1 (records_at ws (at + 1)))
-  unfolding mentions
-  statement_dead e =
-      rw (inner_dead c (label_at ws at) (kids_at ws at) h (ap is_live (class_row ws at h) ∙ e), class_row ws at h)
+  pub statement_dead : is_live (take_f 1 (records_at ws (at + 1))) ≡ false → mentions_by c (inner c (label_at ws at) (kids_at ws at)) (kids_at ws at) ≡ mentions_by c whole (kids_at ws at)
+  statement_dead e = rw (inner_dead c (label_at ws at) (kids_at ws at) h (ap is_live (class_row ws at h) ∙ e))
 
   -- a live class stands before the end
   pub live_within : is_live (take_f 1 (records_at ws (at + 1))) ≡ true → at + 1 < length ws
   live_within e = by_end ws (at + 1) (λ g. g) (λ g. absurd (true_false (sym e ∙ live_past ws (at + 1) g)))
 
-  statement_live : is_live (take_f 1 (records_at ws (at + 1))) ≡ true → at + 1 < length ws →
+  pub statement_live : is_live (take_f 1 (records_at ws (at + 1))) ≡ true →
       mentions_by c (inner c (label_at ws at) (kids_at ws at)) (kids_at ws at)
       ≡ (mentions_word c (label_at ws (at + 1)) (kids_at ws (at + 1)) || mentions_by c (of_class c (kids_at ws (at + 1))) (kids_at ws (at + 1)))
   unfolding searched within behind
-  statement_live e g =
+  statement_live e =
+      let g : at + 1 < length ws = live_within e in
       let row : kids_at ws at ≡ node (label_at ws (at + 1)) (kids_at ws (at + 1)) end = class_row ws at h ∙ record_one ws (at + 1) g in
       rw (inner_live c (label_at ws at) (kids_at ws at) h (ap is_live (class_row ws at h) ∙ e), class_kids_lem ws at h, row)
       (mentions_node c (each (of_class c (kids_at ws (at + 1)))) (label_at ws (at + 1)) (kids_at ws (at + 1)) end ∙ rw (mentions_end c (each (of_class c (kids_at ws (at + 1))))) (or-false _))
-
-  pub statement_named : is_live (take_f 1 (records_at ws (at + 1))) ≡ true → mentions_word c (label_at ws (at + 1)) (kids_at ws (at + 1)) ≡ true →
-      mentions_by c (inner c (label_at ws at) (kids_at ws at)) (kids_at ws at) ≡ true
-  statement_named e i = statement_live e (live_within e) ∙ rw i
-
-  pub statement_class : is_live (take_f 1 (records_at ws (at + 1))) ≡ true → mentions_word c (label_at ws (at + 1)) (kids_at ws (at + 1)) ≡ false →
-      mentions_by c (inner c (label_at ws at) (kids_at ws at)) (kids_at ws at) ≡ mentions_by c (of_class c (kids_at ws (at + 1))) (kids_at ws (at + 1))
-  statement_class e i = statement_live e (live_within e) ∙ rw i
-
--- a record found among others stands no earlier
-pub found_low : (ws : List ℕ) (kind at k r : ℕ) → Found ws kind at k r → at ≤ length ws → at ≤ r
-found_low ws kind at k r f h = by_end ws r (λ g. (f.first g).low) (λ g. omega arith)

@@ -1,271 +1,118 @@
-// Lines of cases that standard input lists: the words of a module as kind:payload, the numbers in front of them, what is written of each case, and
-// the count of cases. (..)*N stands for its words N times over. A number without a kind is no word.
+// Cases that standard input lists, one to a line: the words of a module as kind:payload, the numbers in front of them, what is written of each case,
+// and the count of cases. (..)*N stands for its words N times over.
 #![tactic(auto)]
 
-ghost use Rattle.std.specs.Prelude.{◌≤◌, length};
+ghost use Rattle.std.specs.Prelude.{◌+◌, ◌≡◌, ◌≤◌, ◌++◌, Some, IfOk, codes, decimal, min};
+ghost use Rattle.std.specs.Bool.{OnTrue, OnFalse};
 
-use std::io;
-
-// What has been read of a line: the number being read, the kind in front of it, what it ends (0 nothing, 1 a word, 2 how often to repeat), where the
-// last group and the last item begin, and where the next word goes.
-#[derive(Clone, Copy)]
-struct Reading {
-    value: u32,
-    kind: u32,
-    ends: u32,
-    group: usize,
-    item: usize,
-    at: usize,
-}
-
-// A number of a line, and where to read on.
-#[derive(Clone, Copy)]
-pub struct Number {
-    pub value: u32,
-    pub next: usize,
-}
+use anyhow::{Context, Result, ensure};
+use std::alloc::Global;
+use std::str::SplitWhitespace;
+use std::{fmt, io};
 
 // The cases that were run, and those that came out wrong.
-#[derive(Clone, Copy)]
+#[derive(Clone, Copy, Debug)]
 pub struct Tally {
     pub cases: u64,
     pub wrong: u64,
+    ghost at_most: { wrong ≤ cases },
 }
 
-fn is_digit(b: u8) -> bool {
-    if b < b'0' {
-        return false;
-    }
-    b <= b'9'
-}
-
-// The value with one more digit.
-pub fn with_digit(value: u32, b: u8) -> u32 {
-    if b < b'0' {
-        return value;
-    }
-    if value > 99999999 {
-        return value;
-    }
-    value * 10 + (b - b'0') as u32
-}
-
-// Stores a word if there is room.
-fn store(ws: &mut [u32], at: usize, kind: u32, payload: u32) -> usize {
-    if kind > 63 {
-        return at;
-    }
-    if payload > 67108863 {
-        return at;
-    }
-    if ws.len() <= at {
-        return at;
-    }
-    ws[at] = words::word_of(kind, payload);
-    at + 1
-}
-
-// Stores the words from `from` to `until` once more at `at`, as far as there is room.
-fn copied(ws: &mut [u32], from: usize, until: usize, at: usize) -> usize {
-    let mut to = at;
-    let mut i = from;
-    while i < until {
-        if ws.len() <= to {
-            return to;
+impl Tally {
+    // One case more.
+    pub fn count(&mut self, right: bool)
+        ensures cases { self.new.cases ≡ min (self.old.cases + 1) 18446744073709551615 }
+        ensures right { OnTrue right (self.new.wrong ≡ self.old.wrong) }
+        ensures wrong { OnFalse right (self.new.wrong ≡ min (self.old.wrong + 1) 18446744073709551615) }
+    {
+        self.cases = self.cases.saturating_add(1);
+        if !right {
+            self.wrong = self.wrong.saturating_add(1);
         }
-        if ws.len() <= i {
-            return to;
+    }
+}
+
+impl fmt::Display for Tally {
+    ghost output = { λ t. Some (decimal t.cases ++ (codes " cases, " ++ (decimal t.wrong ++ codes " wrong"))) };
+
+    fn fmt<W: fmt::Write>(&self, f: &mut fmt::Formatter<W>) -> fmt::Result {
+        let Tally { cases, wrong } = *self;
+        write!(f, "{cases} cases, {wrong} wrong")
+    }
+}
+
+// How a case came out, and the number answered where that is written too.
+#[derive(Clone, Copy, Debug)]
+pub struct Outcome {
+    pub right: bool,
+    pub answer: Option<u32>,
+}
+
+// The next number of a line.
+pub fn read_number(items: &mut SplitWhitespace<'_>) -> Result<u32> {
+    let item = items.next().context("a number is missing")?;
+    Ok(item.parse::<u32>()?)
+}
+
+fn read_word(item: &str) -> Result<u32> {
+    let (kind, payload) = item.split_once(':').context("a word has no colon")?;
+    let kind = kind.parse::<u32>()?;
+    let payload = payload.parse::<u32>()?;
+    ensure!(kind < 64 && payload < 67108864, "{item} is no word");
+    Ok(words::word_of(kind, payload))
+}
+
+// The words of the items that are left of a line.
+pub fn read_words(alloc: Global, items: SplitWhitespace<'_>) -> Result<Vec<u32>> {
+    let mut all = Vec::new(alloc);
+    let mut group = Vec::new(alloc);
+    for item in items {
+        let item = match item.strip_prefix('(') {
+            Some(first) => {
+                group.clear();
+                first
+            }
+            None => item,
+        };
+        let (item, times) = match item.split_once(")*") {
+            Some((last, times)) => (last, times.parse::<u32>()?),
+            None => (item, 1),
+        };
+        let word = read_word(item)?;
+        all.push(word)?;
+        group.push(word)?;
+        for _ in 1..times {
+            all.extend_from_slice(&group)?;
         }
-        ws[to] = ws[i];
-        to += 1;
-        i += 1;
     }
-    to
+    Ok(all)
 }
 
-// Repeats the words from `from` to `at` until they stand there `times` times.
-fn repeated(ws: &mut [u32], from: usize, at: usize, times: u32) -> usize {
-    let mut to = at;
-    let mut n = 1;
-    while n < times {
-        to = copied(ws, from, at, to);
-        n += 1;
-    }
-    to
-}
-
-// The item that ends here.
-fn ended(ws: &mut [u32], r: Reading) -> Reading {
-    if r.ends == 1 {
-        let at = store(ws, r.at, r.kind, r.value);
-        return Reading {
-            value: 0,
-            kind: 0,
-            ends: 0,
-            group: r.group,
-            item: r.at,
-            at: at,
-        };
-    }
-    if r.ends == 2 {
-        let at = repeated(ws, r.item, r.at, r.value);
-        return Reading {
-            value: 0,
-            kind: 0,
-            ends: 0,
-            group: r.group,
-            item: r.at,
-            at: at,
-        };
-    }
-    Reading {
-        value: 0,
-        kind: 0,
-        ends: 0,
-        group: r.group,
-        item: r.item,
-        at: r.at,
-    }
-}
-
-// One byte more.
-fn with_byte(ws: &mut [u32], r: Reading, b: u8) -> Reading {
-    if is_digit(b) {
-        return Reading {
-            value: with_digit(r.value, b),
-            kind: r.kind,
-            ends: r.ends,
-            group: r.group,
-            item: r.item,
-            at: r.at,
-        };
-    }
-    if b == b':' {
-        return Reading {
-            value: 0,
-            kind: r.value,
-            ends: 1,
-            group: r.group,
-            item: r.item,
-            at: r.at,
-        };
-    }
-    let e = ended(ws, r);
-    if b == b'(' {
-        return Reading {
-            value: 0,
-            kind: 0,
-            ends: 0,
-            group: e.at,
-            item: e.at,
-            at: e.at,
-        };
-    }
-    if b == b')' {
-        return Reading {
-            value: 0,
-            kind: 0,
-            ends: 0,
-            group: e.group,
-            item: e.group,
-            at: e.at,
-        };
-    }
-    if b == b'*' {
-        return Reading {
-            value: 0,
-            kind: 0,
-            ends: 2,
-            group: e.group,
-            item: e.item,
-            at: e.at,
-        };
-    }
-    e
-}
-
-// The words of a line's bytes, and their number.
-pub fn read_words(ws: &mut [u32], line: &[u8]) -> usize {
-    let mut r = Reading {
-        value: 0,
-        kind: 0,
-        ends: 0,
-        group: 0,
-        item: 0,
-        at: 0,
-    };
-    let mut i = 0;
-    while i < line.len() {
-        r = with_byte(ws, r, line[i]);
-        i += 1;
-    }
-    let e = ended(ws, r);
-    e.at
-}
-
-// The number whose digits begin at `from`, and the place behind the byte that ends it.
-pub fn read_number(line: &[u8], from: usize) -> Number {
-    let mut value = 0;
-    let mut i = from;
-    while i < line.len() {
-        if !is_digit(line[i]) {
-            return Number {
-                value: value,
-                next: i + 1,
-            };
-        }
-        value = with_digit(value, line[i]);
-        i += 1;
-    }
-    Number {
-        value: value,
-        next: i,
-    }
-}
-
-// Where the byte stands first from `from` on, or the end.
-pub fn find(text: &[u8], from: usize, b: u8) -> usize
-    requires { from ≤ length text.now }
-    ensures { (from ≤ result) × (result ≤ length text.now) }
+// Runs the case of each line of standard input: what stands in front of '#'. Writes how it came out, and the rest of the line, which says what the case
+// shows. A line that begins with '#' is a heading.
+pub fn run<R: Input + Print + AllocGlobal, F: Fn(&str) -> Result<Outcome>>(
+    rt: &R,
+    run_case: F,
+) -> Result<Tally>
+    requires { F.IsAlwaysCallable run_case }
+    ensures { IfOk result (λ t. t.wrong ≤ t.cases) }
 {
-    let mut i = from;
-    while i < text.len() {
-        if text[i] == b {
-            return i;
+    let text = io::read_to_string(rt.alloc(), rt.reader())?;
+    let mut tally = Tally { cases: 0, wrong: 0 };
+    for line in text.as_str().lines() {
+        let case = line.split_once('#').map_or(line, |(case, _)| case);
+        let title = line.strip_prefix(case).unwrap_or("");
+        if case.is_empty() {
+            println!(rt; "{line}")?;
+            continue;
         }
-        i += 1;
+        let outcome = run_case(case)?;
+        tally.count(outcome.right);
+        let mark = if outcome.right { "ok   " } else { "WRONG" };
+        match outcome.answer {
+            Some(answer) => println!(rt; "{mark} {answer} {title}")?,
+            None => println!(rt; "{mark} {title}")?,
+        }
     }
-    i
-}
-
-fn more(n: u64) -> u64 {
-    if n < 1000000 {
-        return n + 1;
-    }
-    n
-}
-
-// One case more.
-pub fn counted(t: Tally, right: bool) -> Tally {
-    if right {
-        return Tally {
-            cases: more(t.cases),
-            wrong: t.wrong,
-        };
-    }
-    Tally {
-        cases: more(t.cases),
-        wrong: more(t.wrong),
-    }
-}
-
-// Writes the bytes and ends the line.
-pub fn write_line(rt: &impl Print, bytes: &[u8]) -> io::Result<()> {
-    rt.write_all(bytes)?;
-    rt.write_all(b"\n")
-}
-
-// Writes the last line: how many cases, how many wrong.
-pub fn write_tally(rt: &impl Print, t: Tally) -> io::Result<()> {
-    println!(rt; "{} cases, {} wrong", t.cases, t.wrong)
+    Ok(tally)
 }

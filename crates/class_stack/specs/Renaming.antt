@@ -1,5 +1,7 @@
 -- Rule 6 under several classes: each class around that has an alias replaces its symbol by it, the innermost first. Assumes nothing.
-use Rattle.std.specs.Prelude.{◌≡◌, Bool, true, false, cond, ◌||◌, List, [], ◌∷◌, ℕ, zero, suc, ◌<◌, ◌≤◌, eqb, length, get_or}
+use Rattle.std.specs.Prelude.{◌≡◌, Bool, true, false, cond, ◌||◌, List, [], ◌∷◌, ℕ, zero, suc, ◌<◌, ◌≤◌, ◌⊎◌, eqb, length, get_or}
+use mathlib.Core.Logic.{inl, inr}
+use borrow.Author.Tests.{ne_eqb}
 use Rattle.std.proofs.Math.Path.{refl, ap}
 use Rattle.std.proofs.Common.{sym, ◌∙◌}
 use Rattle.words.specs.Word.{word_of}
@@ -82,14 +84,16 @@ rename_other (s ∷ ss) l e = let t : to_alias s.symbol s.alias l ≡ l = unfold
 
 -- the word of a label under the classes around, by its kind and payload
 module _ (ss : List Sub) (k p : ℕ) where
-  pub word_ref : (eqb k 9 || eqb k 18) ≡ true → word_of k (rename_p ss p) ≡ word_at (rename_l ss (k ∶ p))
-  word_ref e =
-      let t : (is 9 (k ∶ p) || is 18 (k ∶ p)) ≡ true = unfold is ◌∶◌ in e in
-      let f : word_of k (rename_p ss p) ≡ word_at (repay (k ∶ p) (rename_p ss (k ∶ p).payload)) = unfold word_at repay ◌∶◌ in refl in
-      f ∙ ap word_at (sym (rename_ref ss (k ∶ p) t))
+  pub word_ref : (k ≡ 9) ⊎ (k ≡ 18) → word_of k (rename_p ss p) ≡ word_at (rename_l ss (k ∶ p))
+  unfolding is ◌∶◌ word_at repay
+  word_ref e = ap word_at (sym (rename_ref ss (k ∶ p) (go e)))
+    where
+      go : (k ≡ 9) ⊎ (k ≡ 18) → (is 9 (k ∶ p) || is 18 (k ∶ p)) ≡ true
+      go (inl e) = rw e
+      go (inr e) = rw e
 
-  pub word_other : (eqb k 9 || eqb k 18) ≡ false → word_of k p ≡ word_at (rename_l ss (k ∶ p))
-  word_other e =
-      let t : (is 9 (k ∶ p) || is 18 (k ∶ p)) ≡ false = unfold is ◌∶◌ in e in
-      let f : word_of k p ≡ word_at (k ∶ p) = unfold word_at ◌∶◌ in refl in
-      f ∙ ap word_at (sym (rename_other ss (k ∶ p) t))
+  pub word_other : (k ≡ 9 → ⊥) → (k ≡ 18 → ⊥) → word_of k p ≡ word_at (rename_l ss (k ∶ p))
+  unfolding is ◌∶◌ word_at
+  word_other a b =
+      let t : (is 9 (k ∶ p) || is 18 (k ∶ p)) ≡ false = rw (ne_eqb k 9 a, ne_eqb k 18 b) in
+      ap word_at (sym (rename_other ss (k ∶ p) t))

@@ -8,6 +8,7 @@ ghost use Rattle.class_stack.specs.Renaming.{Ready, capacity, subs, swapped, ren
 // How many classes deep.
 pub const CAPACITY: usize = 16;
 
+// Arrays with a depth beside them, not a Vec or slices: the stack is passed by value, and a library takes no heap.
 #[derive(Clone, Copy)]
 pub struct ClassStack {
     pub symbols: [u32; CAPACITY],
@@ -43,10 +44,7 @@ pub fn push(s: ClassStack, symbol: u32, alias: u32) -> ClassStack
 fn swap(symbol: u32, alias: u32, p: u32) -> u32
     ensures { result ≡ swapped (record { symbol = symbol; alias = alias }) p }
 {
-    if p == symbol {
-        return alias;
-    }
-    p
+    if p == symbol { alias } else { p }
 }
 
 // The payload p of an identifier or an assignment under each substitution, from the innermost out.
@@ -55,9 +53,7 @@ pub fn renamed(s: ClassStack, p: u32) -> u32
     ensures { (result ≡ rename_p (subs s) p) × (result < 67108864) }
 {
     let mut x = p;
-    let mut i = s.depth;
-    while 0 < i {
-        i -= 1;
+    for i in (0..s.depth).rev() {
         x = swap(s.symbols[i], s.aliases[i], x);
     }
     x
@@ -71,11 +67,8 @@ pub fn word(s: ClassStack, k: u32, p: u32) -> u32
     if s.depth == 0 {
         return words::word_of(k, p);
     }
-    if k == 9 {
-        return words::word_of(9, renamed(s, p));
+    match k {
+        9 | 18 => words::word_of(k, renamed(s, p)),
+        _ => words::word_of(k, p),
     }
-    if k == 18 {
-        return words::word_of(18, renamed(s, p));
-    }
-    words::word_of(k, p)
 }

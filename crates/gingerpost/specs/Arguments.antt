@@ -2,7 +2,8 @@
 use Rattle.std.specs.Prelude.{◌≡◌, Bool, true, false, List, [], ◌∷◌, ℕ, ◌<◌, length, get_or}
 use Rattle.std.proofs.Common.{arith}
 use Rattle.gingerpost.specs.declared.Argument.{Argument}
-use Rattle.gingerpost.specs.declared.Argument.TheVariants.{Help, Rewrite, Report, Unknown, Name}
+use Rattle.gingerpost.specs.declared.Argument.TheVariants.{Help, Job, Unknown, Name}
+use Rattle.gingerpost.specs.declared.Job.TheVariants.{Rewrite, Report}
 
 -- "--help"
 unfoldable pub help_bytes : List ℕ
@@ -28,12 +29,12 @@ Dashed a = (0 < length a) × (get_or a 0 0 ≡ 45)
 
 unfoldable pub Means : List ℕ → Argument → Type 0
 Means a Help = a ≡ help_bytes
-Means a Rewrite = a ≡ rewrite_bytes
-Means a Report = a ≡ report_bytes
+Means a (Job Rewrite) = a ≡ rewrite_bytes
+Means a (Job Report) = a ≡ report_bytes
 Means a Unknown = Other a × Dashed a
 Means a Name = Other a × (Dashed a → ⊥)
 
-differ : {x : Bool} → x ≡ false → x ≡ true → ⊥
+pub differ : {x : Bool} → x ≡ false → x ≡ true → ⊥
 differ p q = let z : ◌≡◌ {A = ℕ} 0 1 = cc in omega arith
 
 -- none of the three: three comparisons that failed

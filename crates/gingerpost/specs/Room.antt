@@ -1,19 +1,20 @@
 -- What an answer writes fits in the output lent. Assumes nothing.
-use Rattle.std.specs.Prelude.{◌≡◌, List, ℕ, ◌≤◌, length}
+use Rattle.std.specs.Prelude.{◌≡◌, List, ℕ, ◌≤◌, length, Result}
 use Rattle.std.proofs.Common.{ap, ◌∙◌, arith}
 use Rattle.output.specs.Overlay.{Wrote, length_overlay}
 use Rattle.line_writer.specs.Decimal.{answer_text, length_answer}
 use Rattle.rewriting.specs.Answer.{Answer, rewrite_answer, report_answer}
 use Rattle.rewriting.proofs.Room.{written_le}
-use Rattle.rewriter.specs.declared.Answer.{Answer as Returned}
+use Rattle.grammar.specs.declared.Refusal.{Refusal}
+use Rattle.rewriter.specs.declared.Written.{Written}
 use Rattle.rewriter.specs.Numbers.{numbers_of}
 
-pub rewrite_fits : (r : Returned) (ws o : List ℕ) → numbers_of r ≡ rewrite_answer ws o → r.written ≤ length o
-unfolding numbers_of rewrite_answer
+pub rewrite_fits : (r : Result Written Refusal) (ws o : List ℕ) → numbers_of r ≡ rewrite_answer ws o → (numbers_of r).written ≤ length o
+unfolding rewrite_answer
 rewrite_fits r ws o e = rw (ap (λ (a : Answer). a.written) e) (written_le ws _ (length o))
 
-pub report_fits : (r : Returned) (ws o : List ℕ) → numbers_of r ≡ report_answer ws o → r.written ≤ length o
-unfolding numbers_of report_answer
+pub report_fits : (r : Result Written Refusal) (ws o : List ℕ) → numbers_of r ≡ report_answer ws o → (numbers_of r).written ≤ length o
+unfolding report_answer
 report_fits r ws o e = rw (ap (λ (a : Answer). a.written) e) (written_le ws _ (length o))
 
 -- the text of an answer of at most 12,288 words fits in 147,519 bytes

@@ -2,12 +2,14 @@
 // standard output and what is wrong to standard error. The lines are read by `line_reader` and made by `line_writer`.
 #![tactic(auto)]
 
-ghost use Rattle.std.specs.Prelude.{◌≡◌, ◌≤◌, length};
+ghost use Rattle.std.specs.Prelude.{◌≡◌, ◌≤◌, length, IfOk};
 ghost use Rattle.line_reader.specs.Text.{Ready};
+ghost use Rattle.rewriter.specs.Numbers.{numbers_of};
 ghost use Rattle.gingerpost.specs.Arguments.{Means};
 
+use grammar::Refusal;
 use line_reader::{Fault, Reading, Stage};
-use rewriter::Answer;
+use rewriter::Written;
 use std::env::FillError;
 use std::io::{ErrorKind, Read, Write};
 use std::rt::{Env, Files};
@@ -24,50 +26,99 @@ const ARGUMENT_BYTES: usize = 4096;
 // The system's number for a name that is too long.
 const NAME_TOO_LONG: i32 = 36;
 
-#[derive(Clone, Copy)]
+const HELP: &str = "gingerpost [rewrite|report] [FILE]
+
+Reads the words of a module, one to a line as kind:payload in decimal, from FILE or from standard input.
+Prints the three numbers of the answer on one line, then its words, one to a line.
+
+  rewrite  the module with its decorators turned into calls (this is the default)
+  report   a word for each symbol that the rewriting takes
+
+Spaces, tabs and a carriage return at the end of a line are passed over, and so is a line with nothing else.
+The first line that is not a word is told on standard error, with its number; then nothing is printed.
+The exit status is 0 in any case.
+";
+
+#[derive(Clone, Copy, PartialEq, Eq, Debug)]
 enum Job {
     Rewrite,
     Report,
 }
 
 // What an argument says by itself.
-#[derive(Clone, Copy)]
+#[derive(Clone, Copy, PartialEq, Eq, Debug)]
 enum Argument {
     Help,
-    Rewrite,
-    Report,
+    Job(Job),
     // It begins with '-', and is none of these.
     Unknown,
     Name,
 }
 
-// A text as far as it was read, and why it could not be read on.
+// Why nothing is answered.
 #[derive(Clone, Copy)]
-struct Turn {
-    reading: Reading,
-    ended: bool,
-    failed: Option<io::Error>,
+enum Failure<'a> {
+    TooManyArguments,
+    // An argument, and what is wrong with it.
+    Argument(&'a [u8], &'static str),
+    // What could not be opened, read or written, and why.
+    Io(&'a [u8], io::Error),
+    // The number of a bad line, and what is wrong with it.
+    Line(u64, Fault),
+}
+
+// The numbers of an answer.
+#[derive(Clone, Copy)]
+struct Numbers {
+    code: u32,
+    written: usize,
+    fresh: u32,
+}
+
+fn numbers_of(answer: Result<Written, Refusal>) -> Numbers
+    ensures { result.written ≡ (numbers_of answer).written }
+{
+    match answer {
+        Ok(Written { words, fresh }) => Numbers {
+            code: 0,
+            written: words,
+            fresh,
+        },
+        Err(refusal) => Numbers {
+            code: u32::from(refusal),
+            written: 0,
+            fresh: 0,
+        },
+    }
+}
+
+impl Job {
+    // Writes the words of the answer.
+    fn answer(self, ws: &[u32], out: &mut [u32]) -> Numbers
+        ensures { result.written ≤ length out.new }
+    {
+        match self {
+            Job::Rewrite => numbers_of(rewriter::rewrite(ws, out)),
+            Job::Report => numbers_of(symbol_report::report(ws, out)),
+        }
+    }
 }
 
 fn meaning(a: &[u8]) -> Argument
     ensures { Means a.now result }
 {
+    // Comparisons, not a match on the bytes: its last arms know of the bytes' number alone.
     if a == b"--help".as_slice() {
-        return Argument::Help;
+        Argument::Help
+    } else if a == b"rewrite".as_slice() {
+        Argument::Job(Job::Rewrite)
+    } else if a == b"report".as_slice() {
+        Argument::Job(Job::Report)
+    } else if a.starts_with(b"-") {
+        Argument::Unknown
+    } else {
+        Argument::Name
     }
-    if a == b"rewrite".as_slice() {
-        return Argument::Rewrite;
-    }
-    if a == b"report".as_slice() {
-        return Argument::Report;
-    }
-    if a.len() == 0 {
-        return Argument::Name;
-    }
-    if a[0] == b'-' {
-        return Argument::Unknown;
-    }
-    Argument::Name
 }
 
 // Writes to standard error or output. What is not taken is told nowhere.
@@ -75,7 +126,7 @@ fn say(to: &impl Print, text: &[u8]) {
     let _ = to.write_all(text);
 }
 
-// Says why a call failed, in the system's words: an error prints them in front of its number.
+// Says why a call failed, in the system's words: an error prints them in front of its number. The text is on the stack: it may be memory that failed.
 fn say_reason(err: &impl Print, e: io::Error) {
     let mut text = [0u8; 256];
     let mut rest: &mut [u8] = &mut text;
@@ -88,162 +139,83 @@ fn say_reason(err: &impl Print, e: io::Error) {
     say(err, words.as_bytes());
 }
 
-// Says that the named file could not be opened or read, or standard output not written, and why.
-fn say_failed(err: &impl Print, name: &[u8], e: io::Error) {
+// Says what went wrong. A name is written byte for byte: it may be no UTF-8 text.
+fn say_failure(err: &impl Print, failure: Failure<'_>) {
     say(err, b"gingerpost: ");
-    say(err, name);
-    say(err, b": ");
-    say_reason(err, e);
+    match failure {
+        Failure::TooManyArguments => say(err, b"too many arguments"),
+        Failure::Argument(argument, wrong) => {
+            say(err, argument);
+            say(err, wrong.as_bytes());
+        }
+        Failure::Io(name, e) => {
+            say(err, name);
+            say(err, b": ");
+            say_reason(err, e);
+        }
+        Failure::Line(line, fault) => {
+            let _ = print!(err; "line {line}: {fault}");
+        }
+    }
     say(err, b"\n");
 }
 
-fn say_argument(err: &impl Print, a: &[u8], wrong: &[u8]) {
-    say(err, b"gingerpost: ");
-    say(err, a);
-    say(err, wrong);
-}
-
-fn say_fault(err: &impl Print, f: Fault) {
-    match f {
-        Fault::NoKind => say(err, b"no kind in front of the colon\n"),
-        Fault::NoColon => say(err, b"no colon\n"),
-        Fault::NoPayload => say(err, b"no payload behind the colon\n"),
-        Fault::KindTooLarge => say(err, b"the kind is over 63\n"),
-        Fault::PayloadTooLarge => say(err, b"the payload is over 67108863\n"),
-        Fault::NotADigit => say(err, b"neither a digit nor the colon\n"),
-        Fault::LeadingBlank => say(err, b"a blank in front\n"),
-        Fault::SecondItem => say(err, b"more than one word\n"),
-    }
-}
-
-fn say_line(err: &impl Print, line: u64, f: Fault) {
-    let _ = print!(err; "gingerpost: line {line}: ");
-    say_fault(err, f);
-}
-
-fn help(out: &impl Print) {
-    say(out, b"gingerpost [rewrite|report] [FILE]\n\n");
-    say(
-        out,
-        b"Reads the words of a module, one to a line as kind:payload in decimal, from FILE or from standard input.\n",
-    );
-    say(
-        out,
-        b"Prints the three numbers of the answer on one line, then its words, one to a line.\n\n",
-    );
-    say(
-        out,
-        b"  rewrite  the module with its decorators turned into calls (this is the default)\n",
-    );
-    say(
-        out,
-        b"  report   a word for each symbol that the rewriting takes\n\n",
-    );
-    say(
-        out,
-        b"Spaces, tabs and a carriage return at the end of a line are passed over, and so is a line with nothing else.\n",
-    );
-    say(
-        out,
-        b"The first line that is not a word is told on standard error, with its number; then nothing is printed.\n",
-    );
-    say(out, b"The exit status is 0 in any case.\n");
-}
-
-// The next bytes of a file; at its end the line feed that its last line may lack.
-fn read_some(source: &mut impl Read, r: Reading, ws: &mut [u32]) -> Turn
-    requires { Ready ws.old r }
-    ensures { Ready ws.new result.reading }
+// The whole text of a file, with the line feed that its last line may lack. A proved loop has to end, and nothing says that a file does: the turns are
+// counted up to a number that no run reaches.
+fn read_text(source: &mut impl Read, ws: &mut [u32]) -> io::Result<Reading>
+    ensures { IfOk result (λ r. Ready ws.new r) }
 {
+    let mut reading = Reading::start();
     let mut buf = [0u8; 65536];
-    match source.read(&mut buf) {
-        Err(e) => Turn {
-            reading: r,
-            ended: true,
-            failed: Some(e),
-        },
-        Ok(0) => Turn {
-            reading: line_reader::read(r, b"\n", ws),
-            ended: true,
-            failed: None,
-        },
-        Ok(n) => Turn {
-            reading: line_reader::read(r, &buf[..n], ws),
-            ended: false,
-            failed: None,
-        },
-    }
-}
-
-// The whole text of a file. A proved loop has to end, and nothing says that a file does: the turns are counted up to a number that no run reaches.
-fn read_text(source: &mut impl Read, ws: &mut [u32]) -> Turn
-    ensures { Ready ws.new result.reading }
-{
-    let mut r = line_reader::start();
     for _ in 0..u64::MAX {
-        let t = read_some(source, r, ws);
-        if t.ended {
-            return t;
+        match source.read(&mut buf)? {
+            0 => {
+                reading.read(b"\n", ws);
+                return Ok(reading);
+            }
+            n => reading.read(&buf[..n], ws),
         }
-        r = t.reading;
     }
-    Turn {
-        reading: r,
-        ended: false,
-        failed: Some(io::Error::other("it does not end")),
-    }
+    Err(io::Error::other("it does not end"))
 }
 
-fn print(out: &impl Print, err: &impl Print, a: Answer, words: &[u32])
-    requires { (a.written ≤ length words.now) × (length words.now ≤ 12288) }
+// Writes an answer's numbers and its words.
+fn print(out: &impl Print, numbers: Numbers, words: &[u32]) -> io::Result<()>
+    requires { length words.now ≤ 12288 }
 {
     let mut text = [0u8; ANSWER_BYTES];
-    let n = a.written;
-    let k = line_writer::put_answer(
+    let n = line_writer::put_answer(
         &mut text,
-        a.code as u64,
-        n as u64,
-        a.fresh as u64,
-        &words[..n],
+        u64::from(numbers.code),
+        numbers.written as u64,
+        u64::from(numbers.fresh),
+        words,
     );
-    if let Err(e) = out.write_all(&text[..k]) {
-        say_failed(err, b"standard output", e);
-    }
+    out.write_all(&text[..n])
 }
 
-fn answer(out: &impl Print, err: &impl Print, job: Job, ws: &[u32]) {
+fn answer(out: &impl Print, job: Job, ws: &[u32]) -> io::Result<()> {
     let mut words = [0u32; ANSWER_WORDS];
-    match job {
-        Job::Rewrite => {
-            let a = rewriter::rewrite(ws, &mut words);
-            print(out, err, a, &words);
-        }
-        Job::Report => {
-            let a = symbol_report::report(ws, &mut words);
-            print(out, err, a, &words);
-        }
-    }
+    let numbers = job.answer(ws, &mut words);
+    print(out, numbers, &words[..numbers.written])
 }
 
-fn run(out: &impl Print, err: &impl Print, job: Job, source: &mut impl Read, name: &[u8]) {
+fn run<'a>(
+    out: &impl Print,
+    job: Job,
+    source: &mut impl Read,
+    name: &'a [u8],
+) -> Result<(), Failure<'a>> {
     let mut ws = [0u32; MODULE_WORDS];
-    let t = read_text(source, &mut ws);
-    if let Some(e) = t.failed {
-        say_failed(err, name, e);
-        return;
+    let reading = read_text(source, &mut ws).map_err(|e| Failure::Io(name, e))?;
+    if let Stage::Bad(fault) = reading.stage {
+        return Err(Failure::Line(reading.line, fault));
     }
-    let r = t.reading;
-    let s = r.stage;
-    if let Stage::Bad(f) = s {
-        say_line(err, r.line, f);
-        return;
-    }
-    let n = r.stored;
-    answer(out, err, job, &ws[..n]);
+    answer(out, job, &ws[..reading.stored]).map_err(|e| Failure::Io(b"standard output", e))
 }
 
-fn run_input(rt: &(impl Input + Print), err: &impl Print, job: Job) {
-    run(rt, err, job, &mut rt.reader(), b"standard input");
+fn run_input(rt: &(impl Input + Print), job: Job) -> Result<(), Failure<'static>> {
+    run(rt, job, &mut rt.reader(), b"standard input")
 }
 
 // A file's name is UTF-8 text.
@@ -254,43 +226,43 @@ fn open<R: Files>(rt: &R, path: &[u8]) -> io::Result<R::File> {
     }
 }
 
-fn run_file(rt: &(impl Files + Print), err: &impl Print, job: Job, path: &[u8]) {
-    match open(rt, path) {
-        Ok(mut file) => run(rt, err, job, &mut file, path),
-        Err(e) => say_failed(err, path, e),
-    }
+fn run_file<'a>(rt: &(impl Files + Print), job: Job, path: &'a [u8]) -> Result<(), Failure<'a>> {
+    let mut file = open(rt, path).map_err(|e| Failure::Io(path, e))?;
+    run(rt, job, &mut file, path)
+}
+
+fn help(out: &impl Print) -> Result<(), Failure<'static>> {
+    say(out, HELP.as_bytes());
+    Ok(())
+}
+
+fn unknown(a: &[u8]) -> Failure<'_> {
+    Failure::Argument(a, ": unknown argument")
 }
 
 // One argument: a job, or the file of the default one.
-fn run_one(rt: &(impl Files + Input + Print), err: &impl Print, a: &[u8]) {
+fn run_one<'a>(rt: &(impl Files + Input + Print), a: &'a [u8]) -> Result<(), Failure<'a>> {
     match meaning(a) {
         Argument::Help => help(rt),
-        Argument::Rewrite => run_input(rt, err, Job::Rewrite),
-        Argument::Report => run_input(rt, err, Job::Report),
-        Argument::Unknown => say_argument(err, a, b": unknown argument\n"),
-        Argument::Name => run_file(rt, err, Job::Rewrite, a),
+        Argument::Job(job) => run_input(rt, job),
+        Argument::Unknown => Err(unknown(a)),
+        Argument::Name => run_file(rt, Job::Rewrite, a),
     }
 }
 
-// A job and its file.
-fn run_job(rt: &(impl Files + Print), err: &impl Print, job: &[u8], path: &[u8]) {
-    match meaning(job) {
-        Argument::Help => help(rt),
-        Argument::Rewrite => run_file(rt, err, Job::Rewrite, path),
-        Argument::Report => run_file(rt, err, Job::Report, path),
-        Argument::Unknown => say_argument(err, job, b": unknown argument\n"),
-        Argument::Name => say_argument(err, job, b": neither rewrite nor report\n"),
-    }
-}
-
-// Two arguments. The second is a name, also where it reads like a job.
-fn run_two(rt: &(impl Files + Print), err: &impl Print, job: &[u8], path: &[u8]) {
-    match meaning(path) {
-        Argument::Help => help(rt),
-        Argument::Unknown => say_argument(err, path, b": unknown argument\n"),
-        Argument::Rewrite => run_job(rt, err, job, path),
-        Argument::Report => run_job(rt, err, job, path),
-        Argument::Name => run_job(rt, err, job, path),
+// A job and its file. The second argument is a name, also where it reads like a job.
+fn run_two<'a>(
+    rt: &(impl Files + Print),
+    job: &'a [u8],
+    path: &'a [u8],
+) -> Result<(), Failure<'a>> {
+    match (meaning(job), meaning(path)) {
+        (_, Argument::Help) => help(rt),
+        (_, Argument::Unknown) => Err(unknown(path)),
+        (Argument::Help, _) => help(rt),
+        (Argument::Job(job), _) => run_file(rt, job, path),
+        (Argument::Unknown, _) => Err(unknown(job)),
+        (Argument::Name, _) => Err(Failure::Argument(job, ": neither rewrite nor report")),
     }
 }
 
@@ -299,30 +271,42 @@ fn is_given(rt: &impl Env, i: usize) -> bool {
     !matches!(rt.arg(i, &mut []), Err(FillError::NotPresent))
 }
 
+// The bytes of an argument, not `env::args`: that gives no argument where one isn't UTF-8 text.
+fn read_argument<'a>(
+    rt: &impl Env,
+    i: usize,
+    buf: &'a mut [u8],
+    name: &'static [u8],
+) -> Result<&'a [u8], Failure<'static>> {
+    match rt.arg(i, buf) {
+        Ok(n) => Ok(&buf[..n]),
+        Err(_) => Err(Failure::Io(name, io::Error::from_raw_os_error(NAME_TOO_LONG))),
+    }
+}
+
+fn run_arguments<'a>(
+    rt: &(impl Env + Files + Input + Print),
+    first: &'a mut [u8],
+    second: &'a mut [u8],
+) -> Result<(), Failure<'a>> {
+    if is_given(rt, 3) {
+        return Err(Failure::TooManyArguments);
+    }
+    if !is_given(rt, 1) {
+        return run_input(rt, Job::Rewrite);
+    }
+    let first = read_argument(rt, 1, first, b"the first argument")?;
+    if !is_given(rt, 2) {
+        return run_one(rt, first);
+    }
+    let second = read_argument(rt, 2, second, b"the second argument")?;
+    run_two(rt, first, second)
+}
+
 fn main(rt: HostRuntime) {
-    let err = rt.stderr();
-    if is_given(&rt, 3) {
-        say(&err, b"gingerpost: too many arguments\n");
-        return;
-    }
-    if !is_given(&rt, 1) {
-        run_input(&rt, &err, Job::Rewrite);
-        return;
-    }
-    let too_long = io::Error::from_raw_os_error(NAME_TOO_LONG);
     let mut first = [0u8; ARGUMENT_BYTES];
-    let Ok(n) = rt.arg(1, &mut first) else {
-        say_failed(&err, b"the first argument", too_long);
-        return;
-    };
-    if !is_given(&rt, 2) {
-        run_one(&rt, &err, &first[..n]);
-        return;
-    }
     let mut second = [0u8; ARGUMENT_BYTES];
-    let Ok(m) = rt.arg(2, &mut second) else {
-        say_failed(&err, b"the second argument", too_long);
-        return;
-    };
-    run_two(&rt, &err, &first[..n], &second[..m]);
+    if let Err(failure) = run_arguments(&rt, &mut first, &mut second) {
+        say_failure(&rt.stderr(), failure);
+    }
 }

@@ -7,3 +7,5 @@ pub mod Answers
 pub mod Children
 pub mod Words
 pub mod SetLaws
+pub mod SlotLaws
+pub mod RefusalLaws

@@ -8,6 +8,7 @@ use Rattle.std.proofs.Math.Nat.{zero-div}
 use Rattle.std.proofs.Math.Dec.{T, eqb→eq}
 use borrow.Author.Tests.{eqb-true, eq-eqb, ne_eqb}
 use Rattle.words.specs.Table.{lookup, both, every, below_all}
+use Rattle.words.specs.Word.{kind_lt}
 use Rattle.words.specs.Shape.{bit_of, bit_one}
 use Rattle.grammar.specs.Grammar.{slot, row, no_row, table, row_of, holds, allowed}
 use Rattle.grammar.proofs.Rows.{test_left, test_right, implied, allowed_row, allowed_known, sole_kind, kind_sole}
@@ -52,7 +53,7 @@ module _ (k c : ℕ) (h : k < 64) where
   unfolding kinds_of kind_sets of_sets of_category every both bit_of row_of lookup table row no_row rule_by flag_rule free empty
   fit b = fit_in kind_sets tt b
 
-  category_in : bit_of (kinds_of c) k ≡ 1 → (row_of k).category ≡ c
+  pub category_in : bit_of (kinds_of c) k ≡ 1 → (row_of k).category ≡ c
   category_in b = eqb→eq (row_of k).category c (test_left (eqb (row_of k).category c) (eqb (row_of k).rule (rule_by k)) (fit b))
 
   rule_in : bit_of (kinds_of c) k ≡ 1 → (row_of k).rule ≡ rule_by k
@@ -105,3 +106,8 @@ few_symbols k p z = rw (ne_eqb k 40 (unlimited k 40 refl z))
 pub undecorated : (c x d k p : ℕ) → allowed (slot c x) k p ≡ true → bit_of limited k ≡ 0 → decorated_constructor (place (slot c x) d) p ≡ false
 unfolding decorated_constructor place bit_of limited sole_kind lookup
 undecorated c x d k p a z = rw (ne_eqb c 7 (λ e. unlimited k 28 refl z (kind_sole k 7 ((allowed_row (slot c x) k p a).0 ∙ e) tt)))
+
+-- what `is_allowed` and `fault` are proved by
+pub ruleset set_laws = (kind_lt, bit_one, category_in, not_in, free_in, empty_in, flag_in)
+
+pub ruleset limit_laws = (few_symbols, undecorated)

@@ -1,10 +1,12 @@
-// The grammar's leaves: the limits, the categories of records and, of one word, whether it may stand at a place and which refusal it is.
+// The grammar's leaves: the limits, the refusals, what may stand at a place and, of one word, whether it may stand there and which refusal it is.
 #![tactic(auto)]
 
-ghost use Rattle.std.specs.Prelude.{◌≡◌, ◌+◌, ◌-◌};
+ghost use Rattle.std.specs.Prelude.{◌≡◌, ℕ, ◌+◌, ◌-◌};
 ghost use Rattle.grammar.specs.Limits.{max_depth};
 ghost use Rattle.words.specs.Word.{kind_of, payload_of};
-ghost use Rattle.grammar.specs.Grammar.{slot, holds, allowed, is_symbol};
+ghost use Rattle.grammar.specs.Grammar.{row_of, holds, allowed, is_symbol};
+ghost use Rattle.grammar.specs.Slots.{slot_of};
+ghost use Rattle.grammar.specs.Refusals.{number_of, code_of};
 ghost use Rattle.grammar.specs.Sets.{kinds_of, flag_rule};
 ghost use Rattle.grammar.specs.Scan.{place, unknown_symbol, too_many_symbols, decorated_constructor, fault_at};
 
@@ -17,45 +19,64 @@ pub const MAX_DEPTH: u32 = 64;
 // The most symbols of a module.
 pub const MAX_SYMBOLS: u32 = 1000000;
 
-// What a record is.
-pub const MODULE: u8 = 1;
+// Why a module is refused, by the number that a call returns.
+#[derive(Clone, Copy, Debug, PartialEq, Eq)]
+pub enum Refusal {
+    // No words, or too many.
+    BadLength = 1,
+    // A word that may not stand where it does, an early end, or words left over.
+    Malformed = 2,
+    TooDeep = 3,
+    UnknownSymbol = 4,
+    TooManySymbols = 5,
+    // A constructor has decorators of its own.
+    DecoratedConstructor = 6,
+    // Decorated parameters of a constructor, but none of the first one's and no decorators of the class.
+    DecoratedLaterConstructor = 7,
+    OutputTooShort = 8,
+}
 
-pub const SYMBOLS: u8 = 2;
+impl From<Refusal> for u32 {
+    ghost from_gives = { λ r n. n ≡ number_of r };
 
-pub const STATEMENT: u8 = 3;
+    fn from(refusal: Refusal) -> u32 {
+        refusal as u32
+    }
+}
 
-pub const EXPRESSION: u8 = 4;
+// What may stand at a place.
+#[derive(Clone, Copy, Debug, PartialEq, Eq)]
+pub enum Slot {
+    Module,
+    Symbols,
+    // A statement of a block, a static block or code.
+    Statement,
+    // One of the module's own list.
+    OwnStatement,
+    Expression,
+    // A key: 34, 35 or any expression.
+    Key,
+    // The classes under 4:0, 4:1, 4:2 and 20.
+    PlainClass,
+    ExportedClass,
+    DefaultClass,
+    ClassExpression,
+    Id,
+    // Decorators; those of a constructor itself; those of a function's parameter.
+    Decorators,
+    ConstructorDecorators,
+    FunctionDecorators,
+    Body,
+    Element,
+    // The parameters of a method and of a function, and one of them.
+    Parameters,
+    FunctionParameters,
+    Parameter,
+    FunctionParameter,
+    Code,
+}
 
-pub const CLASS: u8 = 5;
-
-pub const ID: u8 = 6;
-
-pub const DECORATORS: u8 = 7;
-
-pub const BODY: u8 = 8;
-
-pub const ELEMENT: u8 = 9;
-
-pub const PARAMETERS: u8 = 10;
-
-pub const PARAMETER: u8 = 11;
-
-pub const CODE: u8 = 12;
-
-// What else a place says of its record. The context of a class under 4 is the payload of that 4.
-pub const PLAIN: u32 = 0;
-
-pub const OWN_LIST: u32 = 1;
-
-pub const AS_KEY: u32 = 1;
-
-pub const OF_CONSTRUCTOR: u32 = 1;
-
-pub const OF_FUNCTION: u32 = 2;
-
-pub const CLASS_EXPRESSION: u32 = 3;
-
-// Sets of kinds, bit k for the kind k: the statements, the expressions, the elements of a class.
+// Sets of kinds, bit k for the kind k. Sets and not `matches!`: a word is tested by one shift, and no branch goes by its kind (speed). The statements, the expressions, the elements of a class.
 const STATEMENTS: u64 = 1 << 2 | 1 << 3 | 1 << 4 | 1 << 5 | 1 << 6 | 1 << 7;
 
 const EXPRESSIONS: u64 = 1 << 8
@@ -109,61 +130,62 @@ const EMPTY: u64 = 1 << 2 | 1 << 13 | 1 << 14 | 1 << 15 | 1 << 20 | 1 << 21 | 1 
 // The kinds that have a limit of their own: decorators and symbols.
 const LIMITED: u64 = 1 << 28 | 1 << 40;
 
-// The kinds of a category.
-fn kinds_of(category: u8) -> u64
-    ensures { result ≡ kinds_of category }
+// The kinds that a slot takes.
+#[tactic(auto, unfolding(crate::specs::Sets::kinds_of, crate::specs::Sets::kind_sets, words::specs::Table::lookup))]
+fn kinds_of(slot: Slot) -> u64
+    ensures { result ≡ kinds_of (slot_of slot).category }
 {
-    match category {
-        MODULE => 1 << 1,
-        SYMBOLS => 1 << 40,
-        STATEMENT => STATEMENTS,
-        EXPRESSION => EXPRESSIONS,
-        CLASS => 1 << 26,
-        ID => 1 << 27,
-        DECORATORS => 1 << 28,
-        BODY => 1 << 29,
-        ELEMENT => ELEMENTS,
-        PARAMETERS => 1 << 36,
-        PARAMETER => 1 << 37,
-        CODE => 1 << 39,
-        _ => 0,
+    match slot {
+        Slot::Module => 1 << 1,
+        Slot::Symbols => 1 << 40,
+        Slot::Statement | Slot::OwnStatement => STATEMENTS,
+        Slot::Expression | Slot::Key => EXPRESSIONS,
+        Slot::PlainClass | Slot::ExportedClass | Slot::DefaultClass | Slot::ClassExpression => 1
+            << 26,
+        Slot::Id => 1 << 27,
+        Slot::Decorators | Slot::ConstructorDecorators | Slot::FunctionDecorators => 1 << 28,
+        Slot::Body => 1 << 29,
+        Slot::Element => ELEMENTS,
+        Slot::Parameters | Slot::FunctionParameters => 1 << 36,
+        Slot::Parameter | Slot::FunctionParameter => 1 << 37,
+        Slot::Code => 1 << 39,
     }
 }
 
-// May a word of a kind that is neither FREE nor EMPTY have the payload in a context.
-fn flags_hold(kind: u32, context: u32, payload: u32) -> bool
-    ensures { result ≡ holds (flag_rule kind) context payload }
+// May a word that is of the slot's kinds, but neither FREE nor EMPTY, have the payload.
+#[tactic(auto, unfolding(crate::specs::Grammar::holds, crate::specs::Sets::flag_rule, words::specs::Word::bit0, words::specs::Word::bit1, words::specs::Table::lookup))]
+fn flags_hold(kind: u32, slot: Slot, payload: u32) -> bool
+    requires { (row_of kind).category ≡ (slot_of slot).category }
+    ensures { result ≡ holds (flag_rule kind) (slot_of slot).context payload }
 {
     match kind {
-        4 => if context == 1 {
-            payload < 3
-        } else {
-            payload == 0
+        4 => match slot {
+            Slot::OwnStatement => payload < 3,
+            _ => payload == 0,
         },
-        22 => if payload == 2 { true } else { payload == 4 },
-        26 => if payload < 8 {
-            if context < 2 {
-                payload % 2 == 1
-            } else {
-                payload / 2 % 2 == 0
-            }
-        } else {
-            false
+        22 => matches!(payload, 2 | 4),
+        26 => match slot {
+            Slot::PlainClass | Slot::ExportedClass => payload < 8 && payload % 2 == 1,
+            _ => payload < 8 && payload / 2 % 2 == 0,
         },
-        28 => if context == 2 { payload == 0 } else { true },
-        30 => if payload < 8 { payload % 4 != 3 } else { false },
+        28 => match slot {
+            Slot::FunctionDecorators => payload == 0,
+            _ => true,
+        },
+        30 => payload < 8 && payload % 4 != 3,
         31 => payload < 4,
-        32 => payload < 2,
-        37 => payload < 2,
-        _ => context == 1,
+        32 | 37 => payload < 2,
+        _ => matches!(slot, Slot::OwnStatement | Slot::Key),
     }
 }
 
-// May a word stand at a place of this category and context.
-fn is_allowed(category: u8, context: u32, w: u32) -> bool
-    ensures { result ≡ allowed (slot category context) (kind_of w) (payload_of w) }
+// May a word stand in a slot. In line, as `fault` is: each copy of the scan has its own (speed).
+#[tactic(auto, using(crate::proofs::SetLaws::set_laws), unfolding(crate::specs::Sets::free, crate::specs::Sets::empty))]
+#[inline(always)]
+fn is_allowed(slot: Slot, w: u32) -> bool
+    ensures { result ≡ allowed (slot_of slot) (kind_of w) (payload_of w) }
 {
-    if words::kind_bit(kinds_of(category), w) == 0 {
+    if words::kind_bit(kinds_of(slot), w) == 0 {
         return false;
     }
     if words::kind_bit(FREE, w) != 0 {
@@ -173,80 +195,66 @@ fn is_allowed(category: u8, context: u32, w: u32) -> bool
     if words::kind_bit(EMPTY, w) != 0 {
         return payload == 0;
     }
-    flags_hold(words::kind_of(w), context, payload)
+    flags_hold(words::kind_of(w), slot, payload)
 }
 
 // Is the payload of this kind a symbol.
+#[tactic(auto, unfolding(crate::specs::Grammar::is_symbol, words::specs::Table::lookup))]
 pub fn is_symbol(kind: u32) -> bool
     ensures { result ≡ is_symbol kind }
 {
-    match kind {
-        5 => true,
-        6 => true,
-        7 => true,
-        9 => true,
-        18 => true,
-        27 => true,
-        _ => false,
-    }
+    matches!(kind, 5 | 6 | 7 | 9 | 18 | 27)
 }
 
 // Is it a symbol that isn't one of s.
+#[tactic(auto, unfolding(crate::specs::Scan::unknown_symbol))]
 fn is_unknown_symbol(s: u32, kind: u32, payload: u32) -> bool
     ensures { result ≡ unknown_symbol s kind payload }
 {
-    if is_symbol(kind) {
-        return s <= payload;
-    }
-    false
+    is_symbol(kind) && s <= payload
 }
 
 // Is it a 40 over the limit.
+#[tactic(auto, unfolding(crate::specs::Scan::too_many_symbols))]
 fn is_too_many_symbols(kind: u32, payload: u32) -> bool
     ensures { result ≡ too_many_symbols kind payload }
 {
-    if kind == 40 {
-        return MAX_SYMBOLS < payload;
-    }
-    false
+    kind == 40 && MAX_SYMBOLS < payload
 }
 
-// Is it a constructor's own 28 that isn't empty. `left`: see `fault`.
-fn is_decorated_constructor(category: u8, context: u32, left: u32, payload: u32) -> bool
-    ensures { result ≡ decorated_constructor (place (slot category context) (max_depth + 1 - left)) payload }
+// Is it a constructor's own 28 that isn't empty.
+#[tactic(auto, unfolding(crate::specs::Scan::decorated_constructor, crate::specs::Scan::place))]
+fn is_decorated_constructor(slot: Slot, payload: u32) -> bool
+    ensures { (depth : ℕ) → result ≡ decorated_constructor (place (slot_of slot) depth) payload }
 {
-    if category == DECORATORS {
-        if context == OF_CONSTRUCTOR {
-            return payload != 0;
-        }
-        return false;
-    }
-    false
+    slot == Slot::ConstructorDecorators && payload != 0
 }
 
-// The lowest refusal that a word has at a place, or 0. `s` is the number of symbols, `left` the number of levels that are left, the word's own counted.
-pub fn fault(s: u32, category: u8, context: u32, left: u32, w: u32) -> u32
-    ensures { result ≡ fault_at s (place (slot category context) (max_depth + 1 - left)) w }
+// The lowest refusal that a word has at a place, if any. `s` is the number of symbols, `left` the number of levels that are left, the word's own counted.
+#[tactic(auto, using(crate::proofs::SetLaws::limit_laws), unfolding(crate::specs::Scan::fault_at, crate::specs::Scan::fault_of, crate::specs::Scan::place, crate::specs::Sets::limited))]
+#[inline(always)]
+pub fn fault(s: u32, slot: Slot, left: u32, w: u32) -> Result<(), Refusal>
+    ensures { code_of result ≡ fault_at s (place (slot_of slot) (max_depth + 1 - left)) w }
 {
     let kind = words::kind_of(w);
     let payload = words::payload_of(w);
-    if !is_allowed(category, context, w) {
-        return 2;
+    if !is_allowed(slot, w) {
+        return Err(Refusal::Malformed);
     }
     if left == 0 {
-        return 3;
+        return Err(Refusal::TooDeep);
     }
     if is_unknown_symbol(s, kind, payload) {
-        return 4;
+        return Err(Refusal::UnknownSymbol);
     }
     if words::kind_bit(LIMITED, w) == 0 {
-        return 0;
+        return Ok(());
     }
     if is_too_many_symbols(kind, payload) {
-        return 5;
+        return Err(Refusal::TooManySymbols);
     }
-    if is_decorated_constructor(category, context, left, payload) {
-        return 6;
+    if is_decorated_constructor(slot, payload) {
+        return Err(Refusal::DecoratedConstructor);
     }
-    0
+    Ok(())
 }

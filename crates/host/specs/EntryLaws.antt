@@ -11,18 +11,24 @@ use Rattle.std.proofs.Math.ListN.{length, take}
 use Rattle.std.proofs.Math.Seq.{take-append_seam}
 use Rattle.output.specs.Overlay.{overlay}
 use Rattle.grammar.specs.Scan.{refusal}
+use Rattle.grammar.specs.declared.Refusal.{Refusal}
+use Rattle.grammar.specs.Refusals.{number_of as refusal_number}
+use Rattle.grammar.proofs.RefusalLaws.{number_some}
 use Rattle.grammar.proofs.Refused.{refusal_le, refused_1}
 use Rattle.grammar.proofs.Accepted.{accepted as well_formed}
 use Rattle.rewriting.specs.Parts.{any_record, is_refused7}
 use Rattle.rewriting.specs.Visit.{module_of}
-use Rattle.rewriting.specs.Answer.{Answer, accepted, refused, turned_back, module_words, report_words, answer_of, lent_after, rewrite_answer, rewrite_lent, report_answer, Reordered, ReportLent}
-use Rattle.rewriting.proofs.Room.{faults_first, not_turned_back, seven_before_eight, untouched, one_each, by_case, written_le, room_cut}
+use Rattle.rewriting.specs.Answer.{Answer, accepted, refused, turned_back, module_words, report_words, answer_of, lent_after, Reordered}
+use Rattle.rewriting.proofs.Room.{faults_first, not_turned_back, seven_before_eight, untouched, by_case, written_le, room_cut}
 use Rattle.rewriting.proofs.Length.{module_length}
 use Rattle.rewriting.proofs.Report.{report_length}
 use Rattle.rewriting.specs.DemandWords.{DemandWords}
+use Rattle.rewriting.proofs.DemandAccepted.{demand_words}
+use Rattle.rewriter.specs.Lends.{Lends}
 use Rattle.rewriter.specs.Result.{take_written}
 use Rattle.host.specs.Bytes.{words_of_bytes, bytes_of_words, Small}
 use Rattle.host.specs.BytesLaws.{length_words, length_bytes, words_bytes}
+use Rattle.host.specs.LendsBytes.{LendsBytes}
 use Rattle.host.specs.Entry.{number_of, InFields, answer_in, answer_bytes, is_bad_length, rewrite_bytes, rewrite_bytes_lent, report_bytes, ReportBytesLent}
 
 -- the number loses nothing
@@ -106,14 +112,17 @@ module _ (bs xs o : List ℕ) where
       go true e h = answer_many (eqb-true (length bs % 4) 0 e) (ltb-true 16384 (length bs) h)
       go false e h = answer_odd (eqb-false (length bs % 4) 0 e)
 
--- for every input the number can be taken apart again
-bytes_apart : (bs xs o : List ℕ) → (turned_back (words_of_bytes bs) ≡ 0 → length xs ≤ 12288) → answer_in (number_of (answer_bytes bs xs o)) ≡ answer_bytes bs xs o
+-- for every input the three fit, so that the number can be taken apart again
+pub bytes_fields : (bs xs o : List ℕ) → (turned_back (words_of_bytes bs) ≡ 0 → length xs ≤ 12288) → InFields (answer_bytes bs xs o)
 unfolding answer_bytes
-bytes_apart bs xs o bound = number_apart (answer_bytes bs xs o) (go (eqb (length bs % 4) 0))
+bytes_fields bs xs o bound = go (eqb (length bs % 4) 0)
   where
     go : (b : Bool) → InFields (cond b (answer_of (words_of_bytes bs) xs (length o / 4)) (refused 1))
     go true = fields (words_of_bytes bs) xs (length o / 4) bound
     go false = unfold refused in record { code = omega arith; written = omega arith; fresh = omega arith }
+
+bytes_apart : (bs xs o : List ℕ) → (turned_back (words_of_bytes bs) ≡ 0 → length xs ≤ 12288) → answer_in (number_of (answer_bytes bs xs o)) ≡ answer_bytes bs xs o
+bytes_apart bs xs o bound = number_apart (answer_bytes bs xs o) (bytes_fields bs xs o bound)
 
 pub rewrite_apart : (bs o : List ℕ) → answer_in (number_of (rewrite_bytes bs o)) ≡ rewrite_bytes bs o
 unfolding rewrite_bytes
@@ -125,30 +134,19 @@ report_apart bs o = bytes_apart bs (report_words (words_of_bytes bs)) o (λ t. o
 
 -- ---- a refusal
 
-pub refused_number : (c : ℕ) (a : Answer) → a ≡ refused c → c ≡ number_of a
-unfolding number_of refused
-refused_number c a e = rw e (omega arith)
-
 pub refused_lent : (c : ℕ) (a : Answer) (ys o : List ℕ) → (c ≡ 0 → ⊥) → a ≡ refused c → o ≡ lent_after a ys o
 unfolding refused
 refused_lent c a ys o n e = sym (untouched a ys o (λ z. n (sym (ap (λ (r : Answer). r.code) e) ∙ z)))
 
--- of what validation refuses
-module _ (bs o : List ℕ) (v : ℕ) (even : length bs % 4 ≡ 0) (e : v ≡ refusal (words_of_bytes bs)) (n : v ≡ 0 → ⊥) where
-  refused_is : (xs : List ℕ) → answer_bytes bs xs o ≡ refused v
-  refused_is xs = answer_refused bs xs o even (λ z. n (e ∙ z)) ∙ ap refused (sym e)
+-- a refusal leaves the bytes as they were
+pub lends_refused : (Same : List ℕ → List ℕ → Type 0) (bs xs o : List ℕ) (c : ℕ) → Same xs xs → (c ≡ 0 → ⊥) → answer_bytes bs xs o ≡ refused c → LendsBytes Same bs xs o o
+unfolding refused
+lends_refused Same bs xs o c same n e =
+    record { order = xs; same = same; lent = refused_lent c _ (bytes_of_words xs) o n e; again = λ z. absurd (n (sym (ap (λ (r : Answer). r.code) e) ∙ z)) }
 
-  pub rewriting_refused : (v ≡ number_of (rewrite_bytes bs o)) × ((o ≡ rewrite_bytes_lent bs o) × ((answer_in v).code ≡ 0 → DemandWords (words_of_bytes bs) (take (answer_in v).written (words_of_bytes o))))
-  unfolding rewrite_bytes rewrite_bytes_lent answer_in
-  rewriting_refused =
-      let a = refused_is (module_words (words_of_bytes bs)) in
-      (refused_number v _ a, (refused_lent v _ (bytes_of_words (module_words (words_of_bytes bs))) o n a, λ z. absurd (n (omega (arith, z, e, refusal_le (words_of_bytes bs))))))
-
-  pub report_refused : (v ≡ number_of (report_bytes bs o)) × ReportBytesLent bs o o
-  unfolding report_bytes Reordered
-  report_refused =
-      let a = refused_is (report_words (words_of_bytes bs)) in
-      (refused_number v _ a, record { order = report_words (words_of_bytes bs); same = λ p. refl; lent = refused_lent v _ (bytes_of_words (report_words (words_of_bytes bs))) o n a })
+-- what validation refuses
+pub read_refused : (bs xs o : List ℕ) (r : Refusal) → length bs % 4 ≡ 0 → refusal_number r ≡ refusal (words_of_bytes bs) → answer_bytes bs xs o ≡ refused (refusal_number r)
+read_refused bs xs o r even e = answer_refused bs xs o even (λ z. omega (arith, number_some r, e, z)) ∙ ap refused (sym e)
 
 -- ---- the bytes stored. O are the words lent for the answer, ys those written over them
 
@@ -177,6 +175,21 @@ module _ (ws xs ys O : List ℕ) (as_long : turned_back ws ≡ 0 → length ys �
       subst Stored (sym e)
       (by_case ws xs (length O) Stored (λ n. stored_none (turned_back ws) n) (λ t k. stored_none 8 (λ z. omega arith)) (stored_all (length (report_words ws))))
 
+-- the words written, in the order in which they were
+written_order : (ws xs zs z y : List ℕ) (a : Answer) → a ≡ answer_of ws xs (length z) → (turned_back ws ≡ 0 → length zs ≡ length xs) → y ≡ lent_after a zs z → a.code ≡ 0 → take a.written y ≡ zs
+unfolding refused accepted
+written_order ws xs zs z y a e as_long =
+    subst P (sym e) (by_case ws xs (length z) P (λ n l c. absurd (n c)) (λ t k l c. absurd (omega arith)) fit)
+  where
+    P : Answer → Type 0
+    P r = y ≡ lent_after r zs z → r.code ≡ 0 → take r.written y ≡ zs
+
+    fit : turned_back ws ≡ 0 → length xs ≤ length z → P (accepted (length xs) (length (report_words ws)))
+    fit t k l c =
+        let i : length zs ≤ length z = omega (arith, as_long t) in
+        let w : y ≡ overlay z 0 zs = l ∙ accepted_lent (length xs) (length (report_words ws)) zs z in
+        rw (w, ← as_long t) (take_written z zs i)
+
 -- what was stored, read as words again
 read_back : (o xs : List ℕ) → Small xs → 4 * length xs ≤ length o → take (length xs) (words_of_bytes (overlay o 0 (bytes_of_words xs))) ≡ xs
 read_back o xs small h =
@@ -201,9 +214,6 @@ pub record Called (bs xs zs z y : List ℕ) (a : Answer) : Type 0 where
   pub kept : length y ≡ length z
 
 module _ {bs xs zs z y : List ℕ} {a : Answer} (c : Called bs xs zs z y a) where
-  pub called_fields : InFields a
-  called_fields = subst InFields (sym c.numbers) (fields (words_of_bytes bs) xs (length z) (λ t. omega (arith, c.bound t, c.short)))
-
   -- the words written lie within the buffer
   pub called_within : a.written ≤ length y
   called_within = omega (arith, c.kept, ap (λ (r : Answer). r.written) c.numbers, written_le (words_of_bytes bs) xs (length z))
@@ -232,52 +242,66 @@ module _ {bs xs zs z y : List ℕ} {a : Answer} (c : Called bs xs zs z y a) wher
     pub called_lent : {o' : List ℕ} → o' ≡ overlay o 0 (bytes_of_words (take a.written y)) → o' ≡ lent_after (answer_bytes bs xs o) (bytes_of_words zs) o
     called_lent e = e ∙ stored (words_of_bytes bs) xs zs z c.as_long o y a c.numbers c.lent ∙ ap (λ (r : Answer). lent_after r (bytes_of_words zs) o) called_answer
 
-    -- demand 3 of the words stored
-    pub called_demand : {o' : List ℕ} (n : ℕ) → n ≡ number_of a → (a.code ≡ 0 → DemandWords (words_of_bytes bs) (take a.written y)) →
-        o' ≡ overlay o 0 (bytes_of_words (take a.written y)) → Small (take a.written y) →
-        (answer_in n).code ≡ 0 → DemandWords (words_of_bytes bs) (take (answer_in n).written (words_of_bytes o'))
-    called_demand {o'} n e d s small none =
-        let p : answer_in n ≡ a = ap answer_in e ∙ number_apart a called_fields in
-        let k : (answer_in n).written ≡ length (take a.written y) = ap (λ (r : Answer). r.written) p ∙ called_length in
-        let r : take (answer_in n).written (words_of_bytes o') ≡ take a.written y =
-        ap (λ (l : List ℕ). take (answer_in n).written (words_of_bytes l)) s
-        ∙ ap (λ (m : ℕ). take m (words_of_bytes (overlay o 0 (bytes_of_words (take a.written y))))) k
-        ∙ read_back o (take a.written y) small called_room
-        in
-        subst (DemandWords (words_of_bytes bs)) (sym r) (d (ap (λ (r : Answer). r.code) (sym p) ∙ none))
+    -- the words stored are read there again
+    pub called_again : {o' : List ℕ} → o' ≡ overlay o 0 (bytes_of_words (take a.written y)) → Small (take a.written y) → (answer_bytes bs xs o).code ≡ 0 → take (length zs) (words_of_bytes o') ≡ zs
+    called_again {o'} e small none =
+        let same : take a.written y ≡ zs = written_order (words_of_bytes bs) xs zs z y a c.numbers c.as_long c.lent (ap (λ (r : Answer). r.code) called_answer ∙ none) in
+        ap (λ (l : List ℕ). take (length zs) (words_of_bytes l)) e
+        ∙ ap (λ (l : List ℕ). take (length l) (words_of_bytes (overlay o 0 (bytes_of_words (take a.written y))))) (sym same)
+        ∙ read_back o (take a.written y) small called_room ∙ same
 
--- ---- the rewriting. v are the words read
+-- ---- a job. v are the words read
 
-module _ (bs v z y : List ℕ) (a : Answer) (read : v ≡ words_of_bytes bs) where
-  pub rewriting_called : length bs % 4 ≡ 0 → 3 * (length bs / 4) ≤ length z → length z ≤ 12288 → length y ≡ length z → a ≡ rewrite_answer v z → y ≡ rewrite_lent v z →
-      Called bs (module_words (words_of_bytes bs)) (module_words (words_of_bytes bs)) z y a
-  unfolding rewrite_answer rewrite_lent
-  rewriting_called even long short kept numbers lent =
-      let n : a ≡ answer_of (words_of_bytes bs) (module_words (words_of_bytes bs)) (length z) = numbers ∙ ap (λ (l : List ℕ). answer_of l (module_words l) (length z)) read in
-      record {
-        even = even;
-        bound = λ t. omega (arith, module_length (words_of_bytes bs) (not_turned_back (words_of_bytes bs) t), length_words bs, long);
-        short = short;
-        as_long = λ t. refl;
-        numbers = n;
-        lent = lent ∙ ap (λ (l : List ℕ). lent_after (answer_of l (module_words l) (length z)) (module_words l) z) read ∙ ap (λ (r : Answer). lent_after r (module_words (words_of_bytes bs)) z) (sym n);
-        kept = kept;
-      }
+module _
+    (words : List ℕ → List ℕ) (Same : List ℕ → List ℕ → Type 0)
+    (as_many : (ws ys : List ℕ) → refusal ws ≡ 0 → Same ys (words ws) → length ys ≡ length (words ws))
+    (fits : (ws : List ℕ) → refusal ws ≡ 0 → length (words ws) ≤ 3 * length ws)
+    (bs v z y : List ℕ) (read : v ≡ words_of_bytes bs) (l : Lends Same v (words v) z y) where
+  pub job_order : Same l.order (words (words_of_bytes bs))
+  job_order = subst (λ (ws : List ℕ). Same l.order (words ws)) read l.same
 
--- ---- the symbol report
-
-module _ (bs v z y : List ℕ) (a : Answer) (read : v ≡ words_of_bytes bs) (w : ReportLent v z y) where
-  pub report_order : Reordered w.order (report_words (words_of_bytes bs))
-  report_order = subst (λ (l : List ℕ). Reordered w.order (report_words l)) read w.same
-
-  pub report_called : length bs % 4 ≡ 0 → length bs / 4 / 3 ≤ length z → length z ≤ 12288 → length y ≡ length z → a ≡ report_answer v z → Called bs (report_words (words_of_bytes bs)) w.order z y a
-  unfolding report_answer
-  report_called even long short kept numbers = record {
+  pub job_called : (a : Answer) → length bs % 4 ≡ 0 → 3 * (length bs / 4) ≤ length z → length z ≤ 12288 → length y ≡ length z → a ≡ answer_of v (words v) (length z) → Called bs (words (words_of_bytes bs)) l.order z y a
+  job_called a even long short kept numbers = record {
     even = even;
-    bound = λ t. omega (arith, report_length (words_of_bytes bs) (not_turned_back (words_of_bytes bs) t), length_words bs, long);
+    bound = λ t. omega (arith, fits (words_of_bytes bs) (not_turned_back (words_of_bytes bs) t), length_words bs, long);
     short = short;
-    as_long = λ t. (one_each (words_of_bytes bs) w.order (not_turned_back (words_of_bytes bs) t) report_order).as_many;
-    numbers = numbers ∙ ap (λ (l : List ℕ). answer_of l (report_words l) (length z)) read;
-    lent = w.lent ∙ ap (λ (r : Answer). lent_after r w.order z) (sym numbers);
+    as_long = λ t. as_many (words_of_bytes bs) l.order (not_turned_back (words_of_bytes bs) t) job_order;
+    numbers = numbers ∙ ap (λ (ws : List ℕ). answer_of ws (words ws) (length z)) read;
+    lent = l.lent ∙ ap (λ (r : Answer). lent_after r l.order z) (sym numbers);
     kept = kept;
   }
+
+-- ---- the two calls
+
+-- an accepted answer
+answer_accepted : (bs xs o : List ℕ) → (answer_bytes bs xs o).code ≡ 0 → (turned_back (words_of_bytes bs) ≡ 0) × ((answer_bytes bs xs o).written ≡ length xs)
+unfolding answer_bytes refused accepted
+answer_accepted bs xs o = go (eqb (length bs % 4) 0)
+  where
+    P : Answer → Type 0
+    P r = r.code ≡ 0 → (turned_back (words_of_bytes bs) ≡ 0) × (r.written ≡ length xs)
+
+    go : (b : Bool) → P (cond b (answer_of (words_of_bytes bs) xs (length o / 4)) (refused 1))
+    go true = by_case (words_of_bytes bs) xs (length o / 4) P (λ n c. absurd (n c)) (λ t k c. absurd (omega arith)) (λ t k c. (t, refl))
+    go false = λ c. absurd (omega arith)
+
+module _ {bs o o' : List ℕ} where
+  pub rewriting_lent : LendsBytes (λ ys xs. ys ≡ xs) bs (module_words (words_of_bytes bs)) o o' → o' ≡ rewrite_bytes_lent bs o
+  unfolding rewrite_bytes rewrite_bytes_lent
+  rewriting_lent l = l.lent ∙ ap (λ (ys : List ℕ). lent_after (answer_bytes bs (module_words (words_of_bytes bs)) o) (bytes_of_words ys) o) l.same
+
+  -- demand 3 of the words stored
+  pub rewriting_demand : (n : ℕ) → n ≡ number_of (rewrite_bytes bs o) → LendsBytes (λ ys xs. ys ≡ xs) bs (module_words (words_of_bytes bs)) o o' →
+      (answer_in n).code ≡ 0 → DemandWords (words_of_bytes bs) (take (answer_in n).written (words_of_bytes o'))
+  unfolding rewrite_bytes
+  rewriting_demand n e l none =
+      let xs : List ℕ = module_words (words_of_bytes bs) in
+      let p : answer_in n ≡ answer_bytes bs xs o = ap answer_in e ∙ rewrite_apart bs o in
+      let c : (answer_bytes bs xs o).code ≡ 0 = ap (λ (r : Answer). r.code) (sym p) ∙ none in
+      let t = answer_accepted bs xs o c in
+      let k : (answer_in n).written ≡ length l.order = ap (λ (r : Answer). r.written) p ∙ t.1 ∙ ap length (sym l.same) in
+      subst (DemandWords (words_of_bytes bs)) (sym (ap (λ (m : ℕ). take m (words_of_bytes o')) k ∙ l.again c ∙ l.same)) (demand_words (words_of_bytes bs) t.0)
+
+  pub report_lent : LendsBytes Reordered bs (report_words (words_of_bytes bs)) o o' → ReportBytesLent bs o o'
+  unfolding report_bytes
+  report_lent l = record { order = l.order; same = l.same; lent = l.lent }

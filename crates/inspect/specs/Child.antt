@@ -1,9 +1,10 @@
 -- The children of the record at a place: the first of a kind, the decorators, the second child. Assumes nothing.
 use Rattle.std.specs.Prelude.{◌≡◌, Bool, cond, List, eqb, length, get_or}
-use Rattle.std.proofs.Math.Path.{refl, ap, sym}
+use Rattle.std.proofs.Math.Path.{refl, ap, sym, subst}
 use Rattle.std.proofs.Common.{◌∙◌}
 use Rattle.std.proofs.Math.Bool.{true, false, not}
-use Rattle.std.proofs.Math.Option.{Option, none, some}
+use Rattle.std.specs.declared.option.Option.{Option}
+use Rattle.std.specs.declared.option.Option.TheVariants.{None as none, Some as some}
 use Prim.Native.Nat.{ℕ, zero, suc, ◌+◌, ◌-◌, ◌<◌, ◌≤◌}
 use native.Mathlib.Omega.{arith}
 use Rattle.std.proofs.Math.Dec.{ltb}
@@ -135,12 +136,29 @@ module _ (ws : List ℕ) (kind at k : ℕ) where
         missing = λ l. absurd (omega arith);
       }
 
+-- no record stands before the first, and the end of the words is behind each
+pub found_low : {ws : List ℕ} {kind at k r : ℕ} → Found ws kind (at + 1) k r → at < length ws → at < r
+found_low {ws} {kind} {at} {k} {r} f h = by_end ws r (λ l. omega (arith, (f.first l).low)) (λ l. omega arith)
+
 -- ---- the record at `at`
 
 module _ (ws : List ℕ) (at : ℕ) where
   -- the first of its children of a kind
   pub child_none : (kind : ℕ) → arity_at ws at ≡ 0 → Found ws kind (at + 1) (arity_at ws at) (length ws)
   child_none kind e = found_none ws kind (at + 1) (arity_at ws at) (unfold take_f any_row in rw e)
+
+  -- where it has none, no matter which place is searched
+  pub child_at : {kind q n r : ℕ} → n ≡ arity_at ws at → (at ≤ length ws → q ≡ at + 1) → Found ws kind q n r → Found ws kind (at + 1) (arity_at ws at) r
+  child_at {kind} {q} {n} {r} e place f = by_end ws at here past
+    where
+      here : at < length ws → Found ws kind (at + 1) (arity_at ws at) r
+      here l = rw (← e, ← place (omega arith)) f
+
+      past : length ws ≤ at → Found ws kind (at + 1) (arity_at ws at) r
+      past l =
+          let none : arity_at ws at ≡ 0 = arity_past ws at l in
+          let last : length ws ≡ r = by_end ws r (λ g. absurd (omega (arith, (f.first g).less))) (λ g. omega (arith, f.most)) in
+          subst (Found ws kind (at + 1) (arity_at ws at)) last (child_none kind none)
 
   pub child_kids : {kind r : ℕ} → Found ws kind (at + 1) (arity_at ws at) r → kids_at ws r ≡ kids_of kind (kids_at ws at)
   child_kids {kind} {r} f = f.kids ∙ (unfold kids_at in refl)
@@ -149,6 +167,18 @@ module _ (ws : List ℕ) (at : ℕ) where
   pub kids_row : (n : ℕ) → n ≡ arity_at ws at → take_f n (records_at ws (at + 1)) ≡ kids_at ws at
   unfolding kids_at
   kids_row n e = rw e
+
+  -- the same from the place behind its word, where there is one
+  pub kids_row_at : (q n : ℕ) → n ≡ arity_at ws at → (at ≤ length ws → q ≡ at + 1) → take_f n (records_at ws q) ≡ kids_at ws at
+  kids_row_at q n e place = by_end ws at here past
+    where
+      here : at < length ws → take_f n (records_at ws q) ≡ kids_at ws at
+      here l = ap (λ (m : ℕ). take_f n (records_at ws m)) (place (omega arith)) ∙ kids_row n e
+
+      past : length ws ≤ at → take_f n (records_at ws q) ≡ kids_at ws at
+      past l =
+          let none : take_f 0 (records_at ws q) ≡ end = unfold take_f in refl in
+          ap (λ (m : ℕ). take_f m (records_at ws q)) (e ∙ arity_past ws at l) ∙ none ∙ sym (kids_past ws at l)
 
   -- has it a child
   pub empty_none : arity_at ws at ≡ 0 → not (is_empty (kids_at ws at)) ≡ false

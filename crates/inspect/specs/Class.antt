@@ -3,8 +3,8 @@ use Rattle.std.specs.Prelude.{◌≡◌, Bool, ◌&&◌, ◌||◌, not, cond, Li
 use Rattle.std.proofs.Math.Path.{refl, ap, sym}
 use Rattle.std.proofs.Common.{◌∙◌, arith}
 use Rattle.std.proofs.Math.Bool.{true, false}
-use Rattle.std.proofs.Math.Option.{none, some}
-use borrow.Author.Tests.{eq-eqb, ne_eqb}
+use Rattle.std.specs.declared.option.Option.TheVariants.{None as none, Some as some}
+use borrow.Author.Tests.{eq-eqb, ne_eqb, eqb-true, eqb-false}
 use Rattle.std.proofs.Math.ListN.{length}
 use Rattle.words.specs.Word.{bit0, bit1, bit2, children, child_table}
 use Rattle.words.specs.Table.{lookup}
@@ -12,7 +12,7 @@ use Rattle.records.specs.Forest.{end, node, take_f, drop_f, append_f}
 use Rattle.records.specs.Label.{Label, Trees, is, bit, read_at, ◌∶◌}
 use Rattle.records.specs.Place.{records_at, label_at, arity_at, kids_at, end_of, end_add, records_past, record_one, kids_past}
 use Rattle.rewriting.specs.Parts.{is_empty, decorators, parameters_of, indexed, of_parameters, role_of, decorators_of, is_constructor, is_member, is_decorated_member, is_plain_key, first_is_plain, has_plain_key, symbol_if, id_of, has_static, constructor_decorated, first_constructor, bare_method, bare_first, is_live, class_kids}
-use Rattle.inspect.specs.Row.{Test, any_row, count_row, before, or_left, or_right, before_place, before_all, before_others, before_row, by_end}
+use Rattle.inspect.specs.Row.{Test, any_row, count_row, before, or_left, or_right, before_place, before_others, before_row, by_end}
 use Rattle.inspect.specs.Child.{SecondAt, arity_kind, kind_past, kind_within, kids_row}
 
 -- ---- tests of records
@@ -92,9 +92,6 @@ bare_here (node m k r) l kids rest e t =
 
 -- by its place: j elements stand before it
 module _ (ws : List ℕ) (at k j : ℕ) (e : j ≡ before constructs k (records_at ws at)) where
-  pub first_missing : k ≤ j → first_constructor (take_f k (records_at ws at)) ≡ end
-  first_missing h = first_none (take_f k (records_at ws at)) (before_all constructs ws at k j e h)
-
   pub is_first : j < k → is_constructor (label_at ws (end_of ws at j)) ≡ true
   unfolding constructs
   is_first h = (before_place constructs ws at k j e h).1
@@ -102,15 +99,11 @@ module _ (ws : List ℕ) (at k j : ℕ) (e : j ≡ before constructs k (records_
   pub first_place : j < k → first_constructor (take_f k (records_at ws at)) ≡ of_parameters 0 (parameters_of (kids_at ws (end_of ws at j)))
   first_place h = ap first_constructor (before_row constructs ws at k j e h) ∙ first_here (take_f j (records_at ws at)) _ _ _ (before_others constructs ws at k j e) (is_first h)
 
--- ---- words: a constructor and a static element are so wherever they were read
+-- ---- words: a constructor is one wherever it was read
 
 pub constructor_at : (ws : List ℕ) (at w : ℕ) → w ≡ get_or ws at 0 → is_constructor (read_at 0 w) ≡ is_constructor (label_at ws at)
 unfolding label_at is_constructor is bit read_at
 constructor_at ws at w e = rw e
-
-pub static_at : (ws : List ℕ) (at w : ℕ) (f g : Trees) → w ≡ get_or ws at 0 → is_static (read_at 0 w) f ≡ is_static (label_at ws at) g
-unfolding label_at is_static is bit read_at
-static_at ws at w f g e = rw e
 
 pub plain_kind : (l : Label) → is_plain_key l ≡ is_plain_key (l.kind ∶ 0)
 unfolding is_plain_key is ◌∶◌
@@ -126,6 +119,13 @@ module _ (l : Label) (k : Trees) where
   pub member_32 : l.kind ≡ 32 → is_decorated_member l k ≡ not (is_empty (decorators k))
   unfolding is_decorated_member is_member is decorators_of role_of lookup
   member_32 e = rw e
+
+  pub member_field : 30 < l.kind → l.kind < 33 → is_decorated_member l k ≡ not (is_empty (decorators k))
+  member_field a b = go (eqb l.kind 31) refl
+    where
+      go : (t : Bool) → eqb l.kind 31 ≡ t → is_decorated_member l k ≡ not (is_empty (decorators k))
+      go true e = member_31 (eqb-true l.kind 31 e)
+      go false e = let n : l.kind ≡ 31 → ⊥ = eqb-false l.kind 31 e in member_32 (omega (arith, n))
 
   pub member_method : l.kind ≡ 30 → is_constructor l ≡ false → is_decorated_member l k ≡ (not (is_empty (decorators k)) || not (is_empty (of_parameters 0 (parameters_of k))))
   unfolding is_decorated_member is_member is_constructor is decorators_of role_of lookup bit

@@ -1,13 +1,17 @@
 -- Tests of every word and of every record at any depth, by places: the words of k records follow one another. Assumes nothing.
-use Rattle.std.specs.Prelude.{◌≡◌, Bool, true, false, ◌||◌, List, ℕ, zero, suc, ◌+◌, ◌-◌, ◌<◌, ◌≤◌}
+use Rattle.std.specs.Prelude.{◌≡◌, Bool, false, ◌||◌, List, ◌∷◌, ℕ, zero, suc, ◌+◌, ◌-◌, ◌<◌, ◌≤◌, ◌⊎◌, eqb, get_or, take, drop}
+use Rattle.std.specs.List.{list_any}
 use Rattle.std.proofs.Math.Path.{refl, ap, sym}
-use Rattle.std.proofs.Common.{◌∙◌}
+use Rattle.std.proofs.Math.Seq.{drop-cons}
+use Rattle.std.proofs.Common.{◌∙◌, add-one}
 use Rattle.std.proofs.Math.Bool.{or_assoc}
 use native.Mathlib.Omega.{arith}
+use mathlib.Core.Logic.{inl, inr}
 use Rattle.std.proofs.Math.ListN.{length}
+use Rattle.words.specs.Word.{kind_of}
 use Rattle.records.specs.Forest.{end, node, flat, size, take_f, drop_f, append_f, any_f, any_f_append, take_drop, take_f_end}
-use Rattle.records.specs.Label.{Label, Trees}
-use Rattle.records.specs.Place.{records_at, label_at, arity_at, kids_at, end_of, records_node, records_past, row_open, row_kids, size_open}
+use Rattle.records.specs.Label.{Label, Trees, is, read_at}
+use Rattle.records.specs.Place.{records_at, label_at, arity_at, kids_at, end_of, end_low, end_high, end_past, records_node, records_past, row_open, row_kids, size_open}
 use Rattle.rewriting.specs.Parts.{any_record}
 use Rattle.inspect.specs.Row.{Test, by_end}
 
@@ -57,30 +61,28 @@ module _ (ws : List ℕ) where
       let all : length ws - at ≤ length ws = omega arith in
       words_within p (length ws) at all k ∙ ap (any_word p ws at) (sym n)
 
--- a loop over the words of the k records at `at`, which end at e: the next is that at i, and none before it meets the test
-pub record Searched (p : Label → Bool) (ws : List ℕ) (at k e i : ℕ) : Type 0 where
-  pub most : i ≤ e
-  pub same : any_f p (take_f k (records_at ws at)) ≡ any_word p ws i (e - i)
+-- words of a kind, in the part of the words that has n of them from the place i on
+part_words : (kind : ℕ) (ws : List ℕ) (i n : ℕ) → i + n ≤ length ws → list_any (λ w. eqb (kind_of w) kind) (take n (drop i ws)) ≡ any_word (is kind) ws i n
+unfolding any_word is label_at read_at
+part_words kind ws i zero h = refl
+part_words kind ws i (suc n) h =
+    let first : drop i ws ≡ get_or ws i 0 ∷ drop (i + 1) ws = drop-cons ws i 0 (omega arith) ∙ ap (λ (m : ℕ). get_or ws i 0 ∷ drop m ws) (sym (add-one i)) in
+    rw first (ap (eqb (kind_of (get_or ws i 0)) kind ||◌) (part_words kind ws (i + 1) n (omega arith)))
 
-module _ (p : Label → Bool) (ws : List ℕ) (at k : ℕ) where
-  pub searched_start : {e : ℕ} → e ≡ end_of ws at k → at ≤ e → Searched p ws at k e at
-  searched_start {e} s h = record { most = h; same = any_words ws p at k ∙ ap (λ (n : ℕ). any_word p ws at (n - at)) (sym s) }
+-- the k records at `at`, which end at e: the part of the words from `at` to e, if there is one
+module _ (kind : ℕ) (ws : List ℕ) (at k e : ℕ) (ends : e ≡ end_of ws at k) where
+  pub any_part : at ≤ e → e ≤ length ws → list_any (λ w. eqb (kind_of w) kind) (take (e - at) (drop at ws)) ≡ any_f (is kind) (take_f k (records_at ws at))
+  any_part low high = part_words kind ws at (e - at) (omega arith) ∙ ap (λ (n : ℕ). any_word (is kind) ws at (n - at)) ends ∙ sym (any_words ws (is kind) at k)
 
-  next_word : {e i : ℕ} → Searched p ws at k e i → i < e → any_f p (take_f k (records_at ws at)) ≡ (p (label_at ws i) || any_word p ws (i + 1) (e - (i + 1)))
-  next_word {e} {i} a h =
-      let n : e - i ≡ suc (e - (i + 1)) = omega arith in
-      a.same ∙ ap (any_word p ws i) n ∙ (unfold any_word in refl)
-
-  pub searched_next : {e i : ℕ} → Searched p ws at k e i → i < e → p (label_at ws i) ≡ false → Searched p ws at k e (i + 1)
-  searched_next {e} {i} a h t = record { most = omega arith; same = next_word a h ∙ rw t }
-
-  pub searched_hit : {e i : ℕ} → Searched p ws at k e i → i < e → p (label_at ws i) ≡ true → any_f p (take_f k (records_at ws at)) ≡ true
-  searched_hit {e} {i} a h t = next_word a h ∙ rw t
-
-  pub searched_all : {e i : ℕ} → Searched p ws at k e i → e ≤ i → any_f p (take_f k (records_at ws at)) ≡ false
-  searched_all {e} {i} a h =
-      let n : e - i ≡ 0 = omega arith in
-      a.same ∙ ap (any_word p ws i) n ∙ (unfold any_word in refl)
+  pub no_part : (e < at) ⊎ (length ws < e) → any_f (is kind) (take_f k (records_at ws at)) ≡ false
+  unfolding any_word
+  no_part out =
+      let n : e - at ≡ 0 = by_end ws at (λ l. absurd (few l out)) (λ l. omega (arith, end_past ws at k l, ends)) in
+      any_words ws (is kind) at k ∙ ap (λ (n : ℕ). any_word (is kind) ws at (n - at)) (sym ends) ∙ ap (any_word (is kind) ws at) n
+    where
+      few : at < length ws → (e < at) ⊎ (length ws < e) → ⊥
+      few l (inl h) = omega (arith, end_low ws at k, ends)
+      few l (inr h) = omega (arith, end_high ws at k, ends)
 
 -- ---- every place of the words is a record at some depth
 

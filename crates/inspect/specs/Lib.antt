@@ -1,4 +1,6 @@
 pub mod Row
+pub mod Chain
+pub mod Reads
 pub mod Child
 pub mod Class
 pub mod Inside

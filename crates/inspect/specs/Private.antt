@@ -1,9 +1,9 @@
 -- Rule 9's private-in tests: the decorators of records, of parameters and of elements, as tests of their rows. Assumes nothing.
-use Rattle.std.specs.Prelude.{◌≡◌, Bool, ◌||◌, cond, ℕ, suc, eqb}
+use Rattle.std.specs.Prelude.{◌≡◌, Bool, ◌||◌, cond, ℕ, suc, ◌<◌, eqb}
 use Rattle.std.proofs.Math.Path.{refl}
-use Rattle.std.proofs.Common.{ap, ◌∙◌}
+use Rattle.std.proofs.Common.{ap, ◌∙◌, arith}
 use Rattle.std.proofs.Math.Bool.{true, false}
-use borrow.Author.Tests.{ne_eqb}
+use borrow.Author.Tests.{ne_eqb, eqb-true, eqb-false}
 use Rattle.words.specs.Word.{bit1}
 use Rattle.words.specs.Table.{lookup}
 use Rattle.records.specs.Forest.{end, node, any_f, any_f_append}
@@ -56,6 +56,13 @@ module _ (l : Label) (k : Trees) where
   pub private_32 : l.kind ≡ 32 → private_in_element l k ≡ any_f (is 19) (decorators k)
   unfolding private_in_element decorators_of role_of lookup
   private_32 e = rw e
+
+  pub private_field : 30 < l.kind → l.kind < 33 → private_in_element l k ≡ any_f (is 19) (decorators k)
+  private_field a b = go (eqb l.kind 31) refl
+    where
+      go : (t : Bool) → eqb l.kind 31 ≡ t → private_in_element l k ≡ any_f (is 19) (decorators k)
+      go true e = private_31 (eqb-true l.kind 31 e)
+      go false e = let n : l.kind ≡ 31 → ⊥ = eqb-false l.kind 31 e in private_32 (omega (arith, n))
 
   pub private_method : l.kind ≡ 30 → is_constructor l ≡ false → private_in_element l k ≡ (any_f (is 19) (decorators k) || any_f (is 19) (of_parameters 0 (parameters_of k)))
   unfolding private_in_element decorators_of role_of lookup is_constructor is bit

@@ -1,4 +1,4 @@
--- Rows of records: a test of each record of a row, how many meet it, how many stand before the first; and the laws of loops over the k records
+-- Rows of records: a test of each record of a row, how many meet it, how many stand before the first; and the laws of a search among the k records
 -- at a place. Assumes nothing.
 use Rattle.std.proofs.Math.Path.{◌≡◌, refl, ap, sym}
 use Rattle.std.proofs.Common.{◌∙◌, zero-add, add-one, ltb-true, ltb-false}
@@ -161,20 +161,13 @@ module _ (ws : List ℕ) (at : ℕ) where
   row_past i k h g =
       row_split i k h ∙ ap (λ (f : Trees). append_f (take_f i (records_at ws at)) (take_f (k - i) f)) (records_past ws (end_of ws at i) g) ∙ ap (append_f (take_f i (records_at ws at))) (take_f_end (k - i)) ∙ append_f_end _
 
--- ---- a loop over the k records at `at`: i of them are behind, the next stands at q
+-- ---- a search among the k records at `at`: i of them are passed, the next stands at q
 
 -- none of the i meets the test
 pub record Passed (p : Test) (ws : List ℕ) (at k q i : ℕ) : Type 0 where
   pub most : i ≤ k
   pub place : q ≡ end_of ws at i
   pub unmet : any_row p (take_f i (records_at ws at)) ≡ false
-
--- n of the i meet it
-pub record Counted (p : Test) (ws : List ℕ) (at k q i n : ℕ) : Type 0 where
-  pub most : i ≤ k
-  pub place : q ≡ end_of ws at i
-  pub count : n ≡ count_row p (take_f i (records_at ws at))
-  pub few : n ≤ i
 
 module _ (p : Test) (ws : List ℕ) (at k : ℕ) where
   pub passed_start : Passed p ws at k at 0
@@ -218,47 +211,6 @@ module _ (p : Test) (ws : List ℕ) (at k : ℕ) where
       let d : drop_f i (records_at ws at) ≡ node (label_at ws q) (kids_at ws q) (drop_f (arity_at ws q) (records_at ws (q + 1))) =
       end_drop ws at i ∙ ap (records_at ws) (sym a.place) ∙ records_node ws q g in
       before_hit p k i (records_at ws at) _ _ _ h a.unmet d t
-
-  -- ---- counting
-
-  pub counted_start : Counted p ws at k at 0 0
-  unfolding take_f count_row
-  counted_start = record { most = omega arith; place = sym (end_none ws at); count = refl; few = omega arith }
-
-  counted_one : {q i q' n : ℕ} (b : Bool) → Counted p ws at k q i n → i < k → q < length ws → q' ≡ end_of ws q 1 → p (label_at ws q) (kids_at ws q) ≡ b →
-      Counted p ws at k q' (i + 1) (n + cond b 1 0)
-  unfolding count_row
-  counted_one {q} {i} {q'} {n} b a h g e t =
-      let g' : end_of ws at i < length ws = omega (arith, a.place) in
-      let t' : p (label_at ws (end_of ws at i)) (kids_at ws (end_of ws at i)) ≡ b = rw a.place at t in
-      let one : count_row p (node (label_at ws (end_of ws at i)) (kids_at ws (end_of ws at i)) end) ≡ cond b 1 0 + 0 = rw t' in
-      record {
-        most = omega arith;
-        place = next_place q i q' a.place e;
-        count = omega (arith, a.count, one, ap (count_row p) (row_next ws at i g'), count_append p (take_f i (records_at ws at)) (node (label_at ws (end_of ws at i)) (kids_at ws (end_of ws at i)) end));
-        few = few b a.few;
-      }
-    where
-      few : (b : Bool) → n ≤ i → n + cond b 1 0 ≤ i + 1
-      few true l = omega arith
-      few false l = omega arith
-
-  -- m: the count with the next record
-  pub counted_hit : {q i q' n m : ℕ} → Counted p ws at k q i n → i < k → q < length ws → q' ≡ end_of ws q 1 → p (label_at ws q) (kids_at ws q) ≡ true → m ≡ n + 1 →
-      Counted p ws at k q' (i + 1) m
-  counted_hit a h g e t s = rw s (counted_one true a h g e t)
-
-  pub counted_miss : {q i q' n m : ℕ} → Counted p ws at k q i n → i < k → q < length ws → q' ≡ end_of ws q 1 → p (label_at ws q) (kids_at ws q) ≡ false → m ≡ n →
-      Counted p ws at k q' (i + 1) m
-  counted_miss {q} {i} {q'} {n} {m} a h g e t s = let z : m ≡ n + 0 = omega arith in rw z (counted_one false a h g e t)
-
-  pub count_past : {q i n : ℕ} → Counted p ws at k q i n → length ws ≤ q → n ≡ count_row p (take_f k (records_at ws at))
-  count_past {q} {i} a h =
-      let g : length ws ≤ end_of ws at i = omega (arith, a.place) in
-      a.count ∙ sym (ap (count_row p) (row_past ws at i k a.most g))
-
-  pub count_all : {q i n : ℕ} → Counted p ws at k q i n → k ≤ i → n ≡ count_row p (take_f k (records_at ws at))
-  count_all {q} {i} a h = let e : i ≡ k = omega (arith, a.most) in a.count ∙ ap (λ (n : ℕ). count_row p (take_f n (records_at ws at))) e
 
 -- the first that meets the test, by its place
 pub before_place : (p : Test) (ws : List ℕ) (at k j : ℕ) → j ≡ before p k (records_at ws at) → j < k → (end_of ws at j < length ws) × (p (label_at ws (end_of ws at j)) (kids_at ws (end_of ws at j)) ≡ true)

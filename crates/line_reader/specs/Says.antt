@@ -50,9 +50,9 @@ run_byte s n ws b bs =
     ap (λ (l : List ℕ). judged (stage_after (stepped s b) bs) (line_after (stepped s b) (line_by s n b) bs) (words l))
     (sym (append_assoc ws (words_by s b) (words_after (stepped s b) bs)))
 
-same_both : (x : Bool) (s : Stage) → cond x s s ≡ s
-same_both true s = refl
-same_both false s = refl
+same_both : {A : Type 0} → (x : Bool) (a : A) → cond x a a ≡ a
+same_both true a = refl
+same_both false a = refl
 
 bad_step : (f : Fault) (b : ℕ) → stepped (Bad f) b ≡ Bad f
 unfolding stepped within at_end
@@ -63,13 +63,9 @@ unfolding stage_after
 bad_stage f [] = refl
 bad_stage f (b ∷ bs) = ap (λ (s : Stage). stage_after s bs) (bad_step f b) ∙ bad_stage f bs
 
-same_line : (x : Bool) (n : ℕ) → cond x n n ≡ n
-same_line true n = refl
-same_line false n = refl
-
 bad_by : (f : Fault) (n b : ℕ) → line_by (Bad f) n b ≡ n
 unfolding line_by next_line is_bad
-bad_by f n b = ap (λ (s : Stage). cond (eqb b 10) (next_line s n) n) (bad_step f b) ∙ same_line (eqb b 10) n
+bad_by f n b = ap (λ (s : Stage). cond (eqb b 10) (next_line s n) n) (bad_step f b) ∙ same_both (eqb b 10) n
 
 bad_line : (f : Fault) (n : ℕ) (bs : List ℕ) → line_after (Bad f) n bs ≡ n
 unfolding line_after

@@ -1,13 +1,13 @@
 -- What the bytes of a text say, read on from a stage: the words of the lines that end in them, and the line that is reached. Assumes nothing.
-use Rattle.std.specs.Prelude.{◌≡◌, refl, Bool, true, false, cond, List, [], ◌∷◌, ◌++◌, ℕ, ◌+◌, ◌<◌, ◌≤◌, min, ltb, eqb, length, take, get_or}
-use Rattle.std.proofs.Common.{sym, ap, ◌∙◌, append_assoc, append-nil, add-one, arith, length-append, take-suc, take_all}
+use Rattle.std.specs.Prelude.{◌≡◌, refl, Bool, true, false, cond, List, [], ◌∷◌, ◌++◌, ℕ, ◌+◌, ◌<◌, ◌≤◌, min, ltb, eqb, length, take, get_or, set, ◌⊎◌}
+use Rattle.std.proofs.Common.{sym, ap, inl, inr, ◌∙◌, append_assoc, append-nil, add-one, arith, length-append, take-suc, take_all}
 use borrow.Author.Tests.{ltb-false, ltb-true, eq-eqb, ne_eqb}
 use Rattle.words.specs.Word.{word_of}
 use Rattle.output.specs.Overlay.{overlay, length_overlay, overlay_append, overlay_past}
 use Rattle.line_reader.specs.declared.Stage.{Stage}
 use Rattle.line_reader.specs.declared.Stage.TheVariants.{Start, Blank, Kind, Colon, Payload, End, Bad}
 use Rattle.line_reader.specs.declared.Reading.{Reading}
-use Rattle.line_reader.specs.Line.{stepped, is_bad, Fit, fit_stepped}
+use Rattle.line_reader.specs.Line.{stepped, within, at_end, is_bad, Fit, fit_stepped}
 
 -- the word of a line that ends
 unfoldable pub word_of_line : Stage → List ℕ
@@ -70,6 +70,35 @@ pub record Ready (o : List ℕ) (r : Reading) : Type 0 where
 pub stored_none : (o : List ℕ) (at : ℕ) → at ≤ length o → Stored o at [] o at
 unfolding overlay
 stored_none o at h = record { list = refl; end = omega arith }
+
+-- one word, where there is room for it and where there is none
+pub stored_one : (o : List ℕ) (at w : ℕ) → at < length o → Stored o at (w ∷ []) (set o at w) (at + 1)
+unfolding overlay
+stored_one o at w h = record { list = refl; end = omega arith }
+
+pub stored_out : (o : List ℕ) (at w : ℕ) → at ≤ length o → length o ≤ at → Stored o at (w ∷ []) o at
+stored_out o at w h g = record { list = sym (overlay_past o at (w ∷ []) g); end = omega arith }
+
+-- a stage with kind and payload, and any other
+module _ {s : Stage} {k p : ℕ} (e : (s ≡ Payload k p) ⊎ (s ≡ End k p)) where
+  pub fit_of_word : Fit s → (k < 64) × (p < 67108864)
+  unfolding Fit
+  fit_of_word h = elim e [ inl q ↦ rw q at h | inr q ↦ rw q at h ]
+
+  pub stored_word : {o : List ℕ} {at w : ℕ} {o' : List ℕ} {n : ℕ} → w ≡ word_of k p → Stored o at (w ∷ []) o' n → Stored o at (word_of_line s) o' n
+  unfolding word_of_line
+  stored_word f h = elim e [ inl q ↦ rw (q, ← f) h | inr q ↦ rw (q, ← f) h ]
+
+pub stored_no_word : (o : List ℕ) (at : ℕ) (s : Stage) → at ≤ length o → ((k p : ℕ) → s ≡ Payload k p → ⊥) → ((k p : ℕ) → s ≡ End k p → ⊥) →
+    Stored o at (word_of_line s) o at
+unfolding word_of_line
+stored_no_word o at Start h f g = stored_none o at h
+stored_no_word o at Blank h f g = stored_none o at h
+stored_no_word o at (Kind k) h f g = stored_none o at h
+stored_no_word o at (Colon k) h f g = stored_none o at h
+stored_no_word o at (Payload k p) h f g = absurd (f k p refl)
+stored_no_word o at (End k p) h f g = absurd (g k p refl)
+stored_no_word o at (Bad e) h f g = stored_none o at h
 
 -- behind the end it doesn't matter where
 overlay_capped : (o : List ℕ) (at : ℕ) (ws : List ℕ) (n : ℕ) → n ≡ length o → overlay o (min at n) ws ≡ overlay o at ws
@@ -140,20 +169,20 @@ ready_after {bs} {o} {r} {o'} {r'} h f = record {
 }
 
 -- one byte: a line feed, any other
-module _ {o : List ℕ} (r : Reading) (b : ℕ) (s : Stage) (e : s ≡ stepped r.stage b) where
-  pub follows_feed : {o' : List ℕ} (n at : ℕ) → b ≡ 10 → n ≡ next_line s r.line → Stored o r.stored (word_of_line r.stage) o' at →
+module _ {o : List ℕ} (r : Reading) (b : ℕ) (s : Stage) where
+  pub follows_feed : {o' : List ℕ} (n at : ℕ) → b ≡ 10 → Stored o r.stored (word_of_line r.stage) o' at → s ≡ at_end r.stage → n ≡ next_line s r.line →
       Follows (b ∷ []) o r o' (record { stage = s; line = n; stored = at })
-  unfolding stage_after line_after words_after line_by words_by
-  follows_feed n at h l w = record {
-    stage = e;
+  unfolding stage_after line_after words_after line_by words_by stepped
+  follows_feed n at h w e l = record {
+    stage = rw (eq-eqb b 10 h) e;
     line = rw (eq-eqb b 10 h, ← e) l;
     words = rw (append-nil, eq-eqb b 10 h) w;
   }
 
-  pub follows_byte : (b ≡ 10 → ⊥) → r.stored ≤ length o → Follows (b ∷ []) o r o (record { stage = s; line = r.line; stored = r.stored })
-  unfolding stage_after line_after words_after line_by words_by
-  follows_byte h g = record {
-    stage = e;
+  pub follows_byte : (b ≡ 10 → ⊥) → r.stored ≤ length o → s ≡ within r.stage b → Follows (b ∷ []) o r o (record { stage = s; line = r.line; stored = r.stored })
+  unfolding stage_after line_after words_after line_by words_by stepped
+  follows_byte h g e = record {
+    stage = rw (ne_eqb b 10 h) e;
     line = rw (ne_eqb b 10 h);
     words = rw (append-nil, ne_eqb b 10 h) (stored_none o r.stored g);
   }

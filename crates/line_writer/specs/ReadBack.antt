@@ -1,10 +1,10 @@
 -- The lines that are written read back: `line_reader` finds in them the words that they were made of. Assumes nothing.
-use Rattle.std.specs.Prelude.{◌≡◌, Bool, true, false, cond, ℕ, zero, suc, ◌+◌, ◌*◌, ◌/◌, ◌%◌, ◌<◌, ◌≤◌, ltb}
+use Rattle.std.specs.Prelude.{◌≡◌, Bool, true, false, cond, Some, ℕ, zero, suc, ◌+◌, ◌*◌, ◌-◌, ◌/◌, ◌%◌, ◌<◌, ◌≤◌, ltb}
 use Rattle.std.proofs.Math.Path.{refl, ap}
 use Rattle.std.proofs.Common.{sym, ◌∙◌}
 use mathlib.Core.List.{List, [], ◌∷◌, ◌++◌, append-nil}
 use native.Mathlib.Omega.{arith}
-use borrow.Author.Tests.{lt-ltb, le-ltb, ltb-true, ne_eqb}
+use borrow.Author.Tests.{le-ltb, ltb-true, ne_eqb}
 use Rattle.words.specs.Word.{kind_of, payload_of, word_split, kind_lt, payload_lt}
 use Rattle.line_reader.specs.declared.Stage.{Stage}
 use Rattle.line_reader.specs.declared.Stage.TheVariants.{Start, Kind, Colon, Payload}
@@ -13,12 +13,13 @@ use Rattle.line_reader.specs.Text.{word_of_line, stage_after, words_by, words_af
 use Rattle.line_reader.specs.Says.{words, judged, text_says, text_said}
 use Rattle.line_writer.specs.Decimal.{decimal, line_of, lines_of}
 
-digit_of_lem : (d : ℕ) → d < 10 → digit_of (48 + d) ≡ d
+digit_of_lem : (d : ℕ) → d < 10 → digit_of (48 + d) ≡ Some d
 unfolding digit_of
 digit_of_lem d h =
     let a : 48 ≤ 48 + d = omega arith in
     let b : 48 + d ≤ 57 = omega arith in
-    simp (le-ltb (48 + d) 48 a, le-ltb 57 (48 + d) b) (omega arith)
+    let e : 48 + d - 48 ≡ d = omega arith in
+    simp (le-ltb (48 + d) 48 a, le-ltb 57 (48 + d) b, e)
 
 -- a byte that isn't a line feed
 stepped_within : (s : Stage) (b : ℕ) → (b ≡ 10 → ⊥) → stepped s b ≡ within s b
@@ -31,23 +32,23 @@ module _ (d : ℕ) (h : d < 10) where
 
   start_digit : stepped Start (48 + d) ≡ Kind d
   unfolding within from_start
-  start_digit = stepped_within Start (48 + d) not_feed ∙ simp (digit_of_lem d h, lt-ltb d 10 h)
+  start_digit = stepped_within Start (48 + d) not_feed ∙ simp (digit_of_lem d h)
 
   kind_digit : (k : ℕ) → k * 10 + d < 64 → stepped (Kind k) (48 + d) ≡ Kind (k * 10 + d)
   unfolding within from_kind
   kind_digit k g =
       let l : k * 10 + d ≤ 63 = omega arith in
-      stepped_within (Kind k) (48 + d) not_feed ∙ simp (digit_of_lem d h, lt-ltb d 10 h, le-ltb 63 (k * 10 + d) l)
+      stepped_within (Kind k) (48 + d) not_feed ∙ simp (digit_of_lem d h, le-ltb 63 (k * 10 + d) l)
 
   colon_digit : (k : ℕ) → stepped (Colon k) (48 + d) ≡ Payload k d
   unfolding within from_colon
-  colon_digit k = stepped_within (Colon k) (48 + d) not_feed ∙ simp (digit_of_lem d h, lt-ltb d 10 h)
+  colon_digit k = stepped_within (Colon k) (48 + d) not_feed ∙ simp (digit_of_lem d h)
 
   payload_digit : (k p : ℕ) → p * 10 + d < 67108864 → stepped (Payload k p) (48 + d) ≡ Payload k (p * 10 + d)
   unfolding within from_payload
   payload_digit k p g =
       let l : p * 10 + d ≤ 67108863 = omega arith in
-      stepped_within (Payload k p) (48 + d) not_feed ∙ simp (digit_of_lem d h, lt-ltb d 10 h, le-ltb 67108863 (p * 10 + d) l)
+      stepped_within (Payload k p) (48 + d) not_feed ∙ simp (digit_of_lem d h, le-ltb 67108863 (p * 10 + d) l)
 
 -- ---- a number's digits
 

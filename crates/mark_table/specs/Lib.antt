@@ -1,3 +1,4 @@
 pub mod Formed
 pub mod Marks
 pub mod Places
+pub mod Unmarked

@@ -1,10 +1,11 @@
 -- The marks of records: the classes that take an alias (rule 6), by their records as read: the same that the search in the rewritten elements finds, whatever the counter in
 -- front of the class. Assumes nothing.
-use Rattle.std.specs.Prelude.{◌≡◌, Bool, ◌&&◌, ◌||◌, List, [], ◌∷◌, ◌++◌, ℕ, ◌+◌, ◌-◌, ◌/◌, ◌%◌, ◌<◌, ◌≤◌, ltb, get_or, set, replicate}
+use Rattle.std.specs.Prelude.{◌≡◌, Bool, ◌&&◌, ◌||◌, List, [], ◌∷◌, ◌++◌, ℕ, ◌+◌, ◌-◌, ◌<◌, ◌≤◌, ltb, get_or, set, replicate}
 use Rattle.std.proofs.Math.Path.{refl, ap, subst}
 use Rattle.std.proofs.Common.{sym, ◌∙◌, true≢false, arith, length-set, get_or-set_same, get_or-set_other}
 use Rattle.std.proofs.Math.Bool.{true, false, and-false, or-false}
-use Rattle.std.proofs.Math.Option.{Option, none, some}
+use Rattle.std.specs.declared.option.Option.{Option}
+use Rattle.std.specs.declared.option.Option.TheVariants.{None as none, Some as some}
 use Rattle.std.proofs.Math.Dec.{eqb}
 use Rattle.std.proofs.Math.ListN.{length}
 use borrow.Author.Tests.{eqb-true, eqb-false, eq-eqb, ne_eqb, ltb-true, ltb-false}
@@ -12,7 +13,8 @@ use Rattle.words.specs.Table.{lookup}
 use Rattle.words.specs.Shape.{bit_of}
 use Rattle.records.specs.Forest.{end, node, take_f, any_f}
 use Rattle.records.specs.Label.{Label, Trees, is}
-use Rattle.records.specs.Ends.{Ends, ends_set}
+use Rattle.records.specs.Ends.{Ends, blank, ends_set}
+use Rattle.records.specs.declared.Note.{Note}
 use Rattle.records.specs.Place.{records_at, label_at, arity_at, kids_at, end_of, end_low, records_node, records_past}
 use Rattle.grammar.specs.Grammar.{module', symbols, own_statement, element, slots_below, slots, row_of, table, row}
 use Rattle.grammar.specs.WellFormed.{Allowed, Fits}
@@ -36,7 +38,7 @@ use Rattle.alias_search.specs.Mentions.{is_symbol, mentions}
 use Rattle.alias_search.specs.Older.{Older, visit_older}
 use Rattle.alias_search.specs.Formed.{Formed}
 use Rattle.alias_search.specs.Search.{mentions_visited}
-use Rattle.counter.specs.Contract.{Below, elements_from, mark_in, Planned}
+use Rattle.counter.specs.Contract.{Below, elements_from, Planned}
 use Rattle.mark_table.specs.Formed.{fits_formed}
 
 -- does a class with this id name itself in the elements read
@@ -57,17 +59,17 @@ is_marked ws at =
     is_decorated_member (label_at ws at) (kids_at ws at)
 
 -- the marks of the places from i on are right, a 40's left out
-abbrev pub MarksFrom : List ℕ → List ℕ → ℕ → Type 0
-MarksFrom ws notes i = (j : ℕ) → i ≤ j → j < length ws → ((label_at ws j).kind ≡ 40 → ⊥) → mark_in (get_or notes j 0) ≡ is_marked ws j
+abbrev pub MarksFrom : List ℕ → List Note → ℕ → Type 0
+MarksFrom ws notes i = (j : ℕ) → i ≤ j → j < length ws → ((label_at ws j).kind ≡ 40 → ⊥) → (get_or notes j blank).marked ≡ is_marked ws j
 
 -- so are those of the k elements at `at`
-unfoldable pub ElementMarks : List ℕ → List ℕ → ℕ → ℕ → Type 0
+unfoldable pub ElementMarks : List ℕ → List Note → ℕ → ℕ → Type 0
 ElementMarks ws notes at k =
-    (j : ℕ) → j < k → end_of ws at j < length ws → mark_in (get_or notes (end_of ws at j) 0) ≡ is_decorated_member (label_at ws (end_of ws at j)) (kids_at ws (end_of ws at j))
+    (j : ℕ) → j < k → end_of ws at j < length ws → (get_or notes (end_of ws at j) blank).marked ≡ is_decorated_member (label_at ws (end_of ws at j)) (kids_at ws (end_of ws at j))
 
 -- the mark of a class that stands at i is right
-unfoldable pub ClassMark : List ℕ → List ℕ → ℕ → Type 0
-ClassMark ws notes i = i < length ws → (label_at ws i).kind ≡ 26 → mark_in (get_or notes i 0) ≡ is_decorated (kids_at ws i)
+unfoldable pub ClassMark : List ℕ → List Note → ℕ → Type 0
+ClassMark ws notes i = i < length ws → (label_at ws i).kind ≡ 26 → (get_or notes i blank).marked ≡ is_decorated (kids_at ws i)
 
 -- a kind that neither a mark nor refusal 7 asks for
 pub record PassedOver (k : ℕ) : Type 0 where
@@ -139,14 +141,6 @@ module _ (ws : List ℕ) (at : ℕ) where
   pub searched_id : (c : ℕ) → id_of (kids_at ws (at + 1)) ≡ some c → mentions_id (id_of (kids_at ws (at + 1))) (elements_of (kids_at ws (at + 1))) ≡ mentions c (elements_of (kids_at ws (at + 1)))
   unfolding mentions_id
   searched_id c e = rw e
-
--- ---- the mark of a note
-
-pub mark_even : (w : ℕ) → w % 2 ≡ 0 → mark_in w ≡ false
-mark_even w e = ne_eqb (w % 2) 1 λ g. omega (arith, e, g)
-
-pub mark_odd : (w : ℕ) → (w % 2 ≡ 0 → ⊥) → mark_in w ≡ true
-mark_odd w n = eq-eqb (w % 2) 1 (omega (arith, n))
 
 -- ---- what a mark says, by the kind
 
@@ -226,16 +220,16 @@ module _ (ws : List ℕ) (i : ℕ) where
 -- ---- the loop over the places, from the last to the first
 
 -- the entries of the places from i on, in a table of m entries; refused: whether a record there is one of refusal 7
-pub record Done (ws notes : List ℕ) (m i : ℕ) (test refused : Bool) : Type 0 where
+pub record Done (ws : List ℕ) (notes : List Note) (m i : ℕ) (test refused : Bool) : Type 0 where
   pub long : length notes ≡ m
   pub low : i ≤ length ws
   pub ends : Ends ws notes 0
   pub right : MarksFrom ws notes i
-  pub tests : (j : ℕ) → i ≤ j → j < length ws → (label_at ws j).kind ≡ 40 → NoTest ws j (mark_in (get_or notes j 0))
+  pub tests : (j : ℕ) → i ≤ j → j < length ws → (label_at ws j).kind ≡ 40 → NoTest ws j (get_or notes j blank).marked
   pub seen : NoTest ws i test
   pub seven : refused ≡ any_record is_refused7 (records_at ws i)
 
-pub done_start : {ws notes : List ℕ} → Ends ws notes 0 → Done ws notes (length notes) (length ws) false false
+pub done_start : {ws : List ℕ} {notes : List Note} → Ends ws notes 0 → Done ws notes (length notes) (length ws) false false
 done_start {ws} e = record {
   long = refl;
   low = omega arith;
@@ -247,11 +241,11 @@ done_start {ws} e = record {
 }
 
 -- one place back
-pub done_down : {ws notes : List ℕ} {m i : ℕ} {test refused : Bool} → Done ws notes m i test refused → (i ≡ 0 → ⊥) → Done ws notes m (i - 1 + 1) test refused
+pub done_down : {ws : List ℕ} {notes : List Note} {m i : ℕ} {test refused : Bool} → Done ws notes m i test refused → 0 < i → Done ws notes m (i - 1 + 1) test refused
 done_down {ws} {notes} {m} {i} {test} {refused} d h = let e : i ≡ i - 1 + 1 = omega (arith, h) in subst (λ (j : ℕ). Done ws notes m j test refused) e d
 
 -- what the marks of the places behind give
-module _ (ws notes : List ℕ) where
+module _ (ws : List ℕ) (notes : List Note) where
   pub marks_class : (i : ℕ) → MarksFrom ws notes i → ClassMark ws notes i
   unfolding ClassMark
   marks_class i m h kind = m i (omega arith) h (λ g. omega (arith, kind, g)) ∙ marked_class ws i kind
@@ -270,12 +264,12 @@ module _ (ws notes : List ℕ) where
       other k n = eqb-false (label_at ws (end_of ws (i + 1) j)).kind k (unfold is in other_kind element (label_at ws (end_of ws (i + 1) j)) k stands n)
 
   -- the n-th element, which stands at q
-  pub element_mark : (at k q n : ℕ) → ElementMarks ws notes at k → q ≡ end_of ws at n → n < k → q < length ws → mark_in (get_or notes q 0) ≡ is_decorated_member (label_at ws q) (kids_at ws q)
+  pub element_mark : (at k q n : ℕ) → ElementMarks ws notes at k → q ≡ end_of ws at n → n < k → q < length ws → (get_or notes q blank).marked ≡ is_decorated_member (label_at ws q) (kids_at ws q)
   unfolding ElementMarks
-  element_mark at k q n m e l g = subst (λ (p : ℕ). p < length ws → mark_in (get_or notes p 0) ≡ is_decorated_member (label_at ws p) (kids_at ws p)) (sym e) (m n l) g
+  element_mark at k q n m e l g = subst (λ (p : ℕ). p < length ws → (get_or notes p blank).marked ≡ is_decorated_member (label_at ws p) (kids_at ws p)) (sym e) (m n l) g
 
-pub done_next : {ws notes : List ℕ} {m i : ℕ} {test refused : Bool} (v : ℕ) (b r : Bool) → Done ws notes m (i + 1) test refused → NoTest ws i b →
-    r ≡ any_record is_refused7 (records_at ws i) → v / 65536 ≡ get_or notes i 0 / 65536 → mark_in v ≡ (is_marked ws i || (is 40 (label_at ws i) && b)) → Done ws (set notes i v) m i b r
+pub done_next : {ws : List ℕ} {notes : List Note} {m i : ℕ} {test refused : Bool} (v : Note) (b r : Bool) → Done ws notes m (i + 1) test refused → NoTest ws i b →
+    r ≡ any_record is_refused7 (records_at ws i) → v.end ≡ (get_or notes i blank).end → v.marked ≡ (is_marked ws i || (is 40 (label_at ws i) && b)) → Done ws (set notes i v) m i b r
 done_next {ws} {notes} {m} {i} v b r d t n p e = record {
   long = length-set notes i v ∙ d.long;
   low = omega (arith, d.low);
@@ -289,27 +283,27 @@ done_next {ws} {notes} {m} {i} v b r d t n p e = record {
     h : i < length notes
     h = omega (arith, d.low, d.ends.long)
 
-    go : (j : ℕ) → i ≤ j → j < length ws → ((label_at ws j).kind ≡ 40 → ⊥) → (x : Bool) → eqb j i ≡ x → mark_in (get_or (set notes i v) j 0) ≡ is_marked ws j
+    go : (j : ℕ) → i ≤ j → j < length ws → ((label_at ws j).kind ≡ 40 → ⊥) → (x : Bool) → eqb j i ≡ x → (get_or (set notes i v) j blank).marked ≡ is_marked ws j
     go j l w n true s =
         let same : j ≡ i = eqb-true j i s in
-        rw (same, get_or-set_same notes i v 0 h) (e ∙ marked_other ws i b (λ g. n (ap (λ (q : ℕ). (label_at ws q).kind) same ∙ g)))
+        rw (same, get_or-set_same notes i v blank h) (e ∙ marked_other ws i b (λ g. n (ap (λ (q : ℕ). (label_at ws q).kind) same ∙ g)))
     go j l w n false s =
         let other : j ≡ i → ⊥ = eqb-false j i s in
-        rw (get_or-set_other notes i j v 0 other) (d.right j (omega (arith, l, other)) w n)
+        rw (get_or-set_other notes i j v blank other) (d.right j (omega (arith, l, other)) w n)
 
-    forty : (j : ℕ) → i ≤ j → j < length ws → (label_at ws j).kind ≡ 40 → (x : Bool) → eqb j i ≡ x → NoTest ws j (mark_in (get_or (set notes i v) j 0))
+    forty : (j : ℕ) → i ≤ j → j < length ws → (label_at ws j).kind ≡ 40 → (x : Bool) → eqb j i ≡ x → NoTest ws j (get_or (set notes i v) j blank).marked
     forty j l w k true s =
         let same : j ≡ i = eqb-true j i s in
-        let here : NoTest ws i (mark_in (get_or (set notes i v) i 0)) =
-        subst (NoTest ws i) (sym (ap (λ (x : ℕ). mark_in x) (get_or-set_same notes i v 0 h) ∙ e ∙ marked_symbols ws i b (ap (λ (q : ℕ). (label_at ws q).kind) (sym same) ∙ k))) t in
-        subst (λ (q : ℕ). NoTest ws q (mark_in (get_or (set notes i v) q 0))) (sym same) here
+        let here : NoTest ws i (get_or (set notes i v) i blank).marked =
+        subst (NoTest ws i) (sym (ap (λ (x : Note). x.marked) (get_or-set_same notes i v blank h) ∙ e ∙ marked_symbols ws i b (ap (λ (q : ℕ). (label_at ws q).kind) (sym same) ∙ k))) t in
+        subst (λ (q : ℕ). NoTest ws q (get_or (set notes i v) q blank).marked) (sym same) here
     forty j l w k false s =
         let other : j ≡ i → ⊥ = eqb-false j i s in
-        subst (λ (x : ℕ). NoTest ws j (mark_in x)) (sym (get_or-set_other notes i j v 0 other)) (d.tests j (omega (arith, l, other)) w k)
+        subst (λ (x : Note). NoTest ws j x.marked) (sym (get_or-set_other notes i j v blank other)) (d.tests j (omega (arith, l, other)) w k)
 
 -- a record of a kind that is passed over
-pub done_over : {ws notes : List ℕ} {m i : ℕ} {test refused : Bool} (v : ℕ) → Done ws notes m (i + 1) test refused → PassedOver (label_at ws i).kind →
-    v / 65536 ≡ get_or notes i 0 / 65536 → mark_in v ≡ false → Done ws (set notes i v) m i test refused
+pub done_over : {ws : List ℕ} {notes : List Note} {m i : ℕ} {test refused : Bool} (v : Note) → Done ws notes m (i + 1) test refused → PassedOver (label_at ws i).kind →
+    v.end ≡ (get_or notes i blank).end → v.marked ≡ false → Done ws (set notes i v) m i test refused
 done_over {ws} {notes} {m} {i} {test} {refused} v d o p e =
     let none : is_marked ws i ≡ false = marked_member ws i o.statement o.class o.body ∙ member_other (label_at ws i) (kids_at ws i) o.method o.property o.accessor in
     let h : i < length ws = omega (arith, d.low) in
@@ -355,10 +349,10 @@ module _ (ws : List ℕ) (whole : Fits (module' ∷ []) (records_at ws 0)) where
       let f = row_first ws 1 _ symbols _ r.1 in
       (f.0, allowed_sole symbols (label_at ws 1) f.1 tt)
 
-pub done_seven : {ws notes : List ℕ} {m i : ℕ} {test refused : Bool} → i ≡ 0 → Done ws notes m i test refused → refused ≡ any_record is_refused7 (records_at ws 0)
+pub done_seven : {ws : List ℕ} {notes : List Note} {m i : ℕ} {test refused : Bool} → i ≡ 0 → Done ws notes m i test refused → refused ≡ any_record is_refused7 (records_at ws 0)
 done_seven {ws} z d = d.seven ∙ ap (λ (j : ℕ). any_record is_refused7 (records_at ws j)) z
 
-pub done_planned : {ws notes : List ℕ} {m i : ℕ} {test refused : Bool} → Fits (module' ∷ []) (records_at ws 0) → i ≡ 0 → Done ws notes m i test refused → Planned ws notes
+pub done_planned : {ws : List ℕ} {notes : List Note} {m i : ℕ} {test refused : Bool} → Fits (module' ∷ []) (records_at ws 0) → i ≡ 0 → Done ws notes m i test refused → Planned ws notes
 unfolding NoTest
 done_planned {ws} {notes} {m} {i} {test} {refused} whole z d = record {
   ends = d.ends;
@@ -371,7 +365,7 @@ done_planned {ws} {notes} {m} {i} {test} {refused} whole z d = record {
   tests = λ m at h kind. none m at h kind (eqb at 0) refl;
 }
   where
-    none : mark_in (get_or notes 1 0) ≡ false → (at : ℕ) → at < length ws → (label_at ws at).kind ≡ 19 → (x : Bool) → eqb at 0 ≡ x → ⊥
+    none : (get_or notes 1 blank).marked ≡ false → (at : ℕ) → at < length ws → (label_at ws at).kind ≡ 19 → (x : Bool) → eqb at 0 ≡ x → ⊥
     none m at h kind true s = omega (arith, start_kind ws whole, sym (ap (λ (q : ℕ). (label_at ws q).kind) (eqb-true at 0 s)) ∙ kind)
     none m at h kind false s =
         let y : at ≡ 0 → ⊥ = eqb-false at 0 s in

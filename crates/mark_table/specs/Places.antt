@@ -1,6 +1,7 @@
 -- The marks of classes, bodies and members by the places of their parts in an accepted module. Assumes nothing.
-use Rattle.std.specs.Prelude.{◌≡◌, true, false, not, List, [], ◌∷◌, ℕ, ◌+◌, ◌-◌, ◌<◌, length, eqb}
-use Rattle.std.proofs.Common.{ap, sym, ◌∙◌, eq-eqb, ne_eqb}
+use Rattle.std.specs.Prelude.{◌≡◌, refl, Bool, true, false, not, List, [], ◌∷◌, ℕ, ◌+◌, ◌-◌, ◌<◌, length, eqb, ◌≤◌}
+use Rattle.std.proofs.Common.{ap, sym, ◌∙◌, arith, eq-eqb, ne_eqb, eqb-true}
+use Rattle.std.proofs.lemmas.Bool.{eqb-false}
 use Rattle.records.specs.Place.{records_at, label_at, arity_at, kids_at, end_of, end_add}
 use Rattle.grammar.specs.Grammar.{module'}
 use Rattle.grammar.specs.WellFormed.{Fits}
@@ -39,6 +40,14 @@ module _ (ws : List ℕ) (whole : Fits (module' ∷ []) (records_at ws 0)) (at :
 
     pub accessor_own : (label_at ws at).kind ≡ 32 → is_decorated_member (label_at ws at) (kids_at ws at) ≡ not (eqb (label_at ws (at + 1)).payload 0)
     accessor_own e = member_32 (label_at ws at) (kids_at ws at) e ∙ ap not (marked_empty ws at whole (accessor_keyed ws at whole h e).marked)
+
+    -- a property or an accessor
+    pub field_own : 31 ≤ (label_at ws at).kind → (label_at ws at).kind < 33 → is_decorated_member (label_at ws at) (kids_at ws at) ≡ not (eqb (label_at ws (at + 1)).payload 0)
+    field_own l u = go (eqb (label_at ws at).kind 31) refl
+      where
+        go : (b : Bool) → eqb (label_at ws at).kind 31 ≡ b → is_decorated_member (label_at ws at) (kids_at ws at) ≡ not (eqb (label_at ws (at + 1)).payload 0)
+        go true e = property_own (eqb-true _ 31 e)
+        go false e = accessor_own (omega (arith, l, u, eqb-false _ 31 e))
 
     module _ (kind : (label_at ws at).kind ≡ 30) where
       called : Called ws at

@@ -2,7 +2,7 @@
 // (rule 9); a flat loop over the places of an accepted module's words, from the last to the first. And refusal 7, in the same loop.
 #![tactic(auto)]
 
-ghost use Rattle.std.specs.Prelude.{◌≡◌, true, ◌&&◌, ◌||◌, [], ◌∷◌, ◌+◌, ◌/◌, ◌<◌, length};
+ghost use Rattle.std.specs.Prelude.{◌≡◌, true, ◌&&◌, ◌||◌, [], ◌∷◌, ◌+◌, ◌<◌, length};
 ghost use Rattle.words.specs.Word.{kind_of};
 ghost use Rattle.records.specs.Forest.{take_f};
 ghost use Rattle.records.specs.Label.{is};
@@ -12,31 +12,30 @@ ghost use Rattle.grammar.specs.Grammar.{module'};
 ghost use Rattle.grammar.specs.WellFormed.{Fits};
 ghost use Rattle.rewriting.specs.Parts.{any_record, is_decorated, is_decorated_member, is_refused7};
 ghost use Rattle.inspect.specs.Row.{any_row};
-ghost use Rattle.counter.specs.Contract.{mark_in, Planned};
+ghost use Rattle.counter.specs.Contract.{Planned};
 ghost use Rattle.mark_table.specs.Marks.{takes_alias, is_marked, MarksFrom, ElementMarks, ClassMark, NoTest, PassedOver};
 
-use inspect::NONE;
+use inspect::Reader;
+use records::Note;
 
 // The kinds that a mark or refusal 7 asks for: bit k for the kind k.
 const ASKED: u64 = 1 << 4 | 1 << 19 | 1 << 26 | 1 << 29 | 1 << 30 | 1 << 31 | 1 << 32 | 1 << 40;
 
-// Notes in the lowest bit of each place the mark of the record there; the ends as they were. Is any record one of refusal 7?
-pub fn find_marks(ws: &[u32], notes: &mut [u32]) -> bool
+// Notes of each place the mark of the record there; the ends as they were. Is any record one of refusal 7?
+pub fn find_marks(ws: &[u32], notes: &mut [Note]) -> bool
     requires { Ends ws.now notes.old 0 × Fits (module' ∷ []) (records_at ws.now 0) }
     ensures { (result ≡ any_record is_refused7 (records_at ws.now 0)) × Planned ws.now notes.new × (length notes.new ≡ length notes.old) }
 {
-    let mut i = ws.len();
     let mut test = false;
     let mut refused = false;
-    while i != 0 {
-        i -= 1;
+    for i in (0..ws.len()).rev() {
         if is_passed_over(ws[i]) {
-            notes[i] = with_mark(notes[i], false);
+            notes[i].marked = false;
             continue;
         }
         test = any_test(ws, i, test);
         refused = any_refused_7(ws, notes, i, refused);
-        notes[i] = with_mark(notes[i], is_marked(ws, notes, i, test));
+        notes[i].marked = is_marked(ws, notes, i, test);
     }
     refused
 }
@@ -53,43 +52,27 @@ fn any_test(ws: &[u32], i: usize, test: bool) -> bool
     requires { NoTest ws.now (i + 1) test }
     ensures { NoTest ws.now i result }
 {
-    if inspect::kind_at(ws, i) == 19 {
-        return true;
-    }
-    test
-}
-
-// The end that the note w says, with the mark's bit.
-fn with_mark(w: u32, mark: bool) -> u32
-    ensures { (result / 65536 ≡ w / 65536) × (mark_in result ≡ mark) }
-{
-    let e = w / 65536 * 65536;
-    if mark {
-        return e + 1;
-    }
-    e
+    inspect::kind_at(ws, i) == 19 || test
 }
 
 // The mark of the record at i, where those of the places behind it are known; test: is there a private-in test?
-fn is_marked(ws: &[u32], notes: &[u32], i: usize, test: bool) -> bool
+fn is_marked(ws: &[u32], notes: &[Note], i: usize, test: bool) -> bool
     requires { (i < length ws.now) × Ends ws.now notes.now 0 × Fits (module' ∷ []) (records_at ws.now 0) × MarksFrom ws.now notes.now (i + 1) }
     ensures { result ≡ (is_marked ws.now i || (is 40 (label_at ws.now i) && test)) }
 {
-    let k = inspect::kind_at(ws, i);
-    match k {
+    match inspect::kind_at(ws, i) {
         4 => takes_alias(ws, notes, i),
         26 => class_has_decorated(ws, notes, i),
         29 => any_marked(ws, notes, i + 1, inspect::children_at(ws, i)),
         30 => method_has_decorated(ws, notes, i),
-        31 => inspect::payload_at(ws, i + 1) != 0,
-        32 => inspect::payload_at(ws, i + 1) != 0,
+        31 | 32 => inspect::payload_at(ws, i + 1) != 0,
         40 => test,
         _ => false,
     }
 }
 
 // Is the class at i decorated (rule 6)? Its 28 stands right behind it.
-fn class_has_decorated(ws: &[u32], notes: &[u32], i: usize) -> bool
+fn class_has_decorated(ws: &[u32], notes: &[Note], i: usize) -> bool
     requires { (i < length ws.now) × Ends ws.now notes.now 0 × Fits (module' ∷ []) (records_at ws.now 0) × ((label_at ws.now i).kind ≡ 26) }
     ensures { result ≡ is_decorated (kids_at ws.now i) }
 {
@@ -101,7 +84,7 @@ fn class_has_decorated(ws: &[u32], notes: &[u32], i: usize) -> bool
 }
 
 // Is the method at i decorated (rule 3), its parameters included? Its 36 stands behind its 28 and its key.
-fn method_has_decorated(ws: &[u32], notes: &[u32], i: usize) -> bool
+fn method_has_decorated(ws: &[u32], notes: &[Note], i: usize) -> bool
     requires { (i < length ws.now) × Ends ws.now notes.now 0 × Fits (module' ∷ []) (records_at ws.now 0) × ((label_at ws.now i).kind ≡ 30) }
     ensures { result ≡ is_decorated_member (label_at ws.now i) (kids_at ws.now i) }
 {
@@ -116,71 +99,50 @@ fn method_has_decorated(ws: &[u32], notes: &[u32], i: usize) -> bool
 }
 
 // Is one of the k elements at `at` marked?
-fn any_marked(ws: &[u32], notes: &[u32], at: usize, k: usize) -> bool
+fn any_marked(ws: &[u32], notes: &[Note], at: usize, k: usize) -> bool
     requires { Ends ws.now notes.now 0 × ElementMarks ws.now notes.now at k }
     ensures { result ≡ any_row is_decorated_member (take_f k (records_at ws.now at)) }
 {
-    let mut q = at;
-    let mut n = 0;
-    while n < k {
-        if ws.len() <= q {
-            return false;
-        }
-        let w = notes[q];
-        if w % 2 == 1 {
+    for q in Reader::records(ws, notes, at, k) {
+        if notes[q].marked {
             return true;
         }
-        q = (w / 65536) as usize;
-        n += 1;
     }
     false
 }
 
 // Does the class of the statement at i take an alias?
-fn takes_alias(ws: &[u32], notes: &[u32], i: usize) -> bool
+fn takes_alias(ws: &[u32], notes: &[Note], i: usize) -> bool
     requires { (i < length ws.now) × Ends ws.now notes.now 0 × Fits (module' ∷ []) (records_at ws.now 0) × ClassMark ws.now notes.now (i + 1) × ((label_at ws.now i).kind ≡ 4) }
     ensures { result ≡ takes_alias ws.now i }
 {
-    if !inspect::is_live(ws, i + 1) {
+    if !inspect::is_live(ws, i + 1) || !notes[i + 1].marked {
         return false;
     }
-    if notes[i + 1] % 2 != 1 {
-        return false;
+    match inspect::class_id(ws, notes, i + 1) {
+        Some(c) => alias_search::mentions_in_body(ws, notes, i + 1, c),
+        None => false,
     }
-    let c = inspect::class_id(ws, notes, i + 1);
-    if c == NONE {
-        return false;
-    }
-    alias_search::mentions_in_body(ws, notes, i + 1, c)
 }
 
 // ---- refusal 7
 
 // Of the record at i or of one behind it, where `refused` says whether it is one behind it.
-fn any_refused_7(ws: &[u32], notes: &[u32], i: usize, refused: bool) -> bool
+fn any_refused_7(ws: &[u32], notes: &[Note], i: usize, refused: bool) -> bool
     requires { (i < length ws.now) × Ends ws.now notes.now 0 × Fits (module' ∷ []) (records_at ws.now 0) × ClassMark ws.now notes.now (i + 1) × (refused ≡ any_record is_refused7 (records_at ws.now (i + 1))) }
     ensures { result ≡ any_record is_refused7 (records_at ws.now i) }
 {
-    if is_refused_7(ws, notes, i) {
-        return true;
-    }
-    refused
+    is_refused_7(ws, notes, i) || refused
 }
 
 // Of the record at i, where the mark of a class right behind it is known: a decorated class that has no decorators has a constructor, so that no test
 // asks for one.
-fn is_refused_7(ws: &[u32], notes: &[u32], i: usize) -> bool
+fn is_refused_7(ws: &[u32], notes: &[Note], i: usize) -> bool
     requires { (i < length ws.now) × Ends ws.now notes.now 0 × Fits (module' ∷ []) (records_at ws.now 0) × ClassMark ws.now notes.now (i + 1) }
     ensures { result ≡ is_refused7 (label_at ws.now i) (kids_at ws.now i) }
 {
-    if inspect::kind_at(ws, i) != 4 {
+    if inspect::kind_at(ws, i) != 4 || !inspect::is_live(ws, i + 1) {
         return false;
     }
-    if !inspect::is_live(ws, i + 1) {
-        return false;
-    }
-    if notes[i + 1] % 2 == 0 {
-        return false;
-    }
-    !inspect::class_decorated_first(ws, notes, i + 1)
+    notes[i + 1].marked && !inspect::class_decorated_first(ws, notes, i + 1)
 }

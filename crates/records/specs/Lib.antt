@@ -3,3 +3,4 @@ pub mod Prefix
 pub mod Label
 pub mod Place
 pub mod Ends
+pub mod Places

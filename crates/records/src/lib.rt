@@ -5,34 +5,39 @@ ghost use Rattle.std.specs.Prelude.{◌≡◌, ◌<◌, ◌≤◌, length};
 ghost use Rattle.records.specs.Place.{end_of};
 ghost use Rattle.records.specs.Ends.{Ends};
 
-// Notes in the upper half of each place's note where the record there ends, from the last place to the first.
-pub fn find_ends(ws: &[u32], notes: &mut [u32])
+// What is noted of a place: where the record there ends; a mark, whose meaning goes by the record's kind (`Planned` in counter); how many fresh symbols
+// the record takes where no class around is live; whether nothing changes in it.
+#[derive(Clone, Copy, Default)]
+pub struct Note {
+    pub end: u16,
+    pub count: u16,
+    pub marked: bool,
+    pub still: bool,
+}
+
+// Notes of each place where the record there ends, from the last place to the first.
+pub fn find_ends(ws: &[u32], notes: &mut [Note])
     requires { (length ws.now ≤ length notes.old) × (length ws.now < 65536) }
     ensures { Ends ws.now notes.new 0 × (length notes.new ≡ length notes.old) }
 {
-    let mut i = ws.len();
-    while i != 0 {
-        i -= 1;
+    for i in (0..ws.len()).rev() {
         let n = words::child_count(ws[i]) as usize;
-        let e = behind(ws, notes, i + 1, n) as u32;
-        notes[i] = 65536 * e;
+        notes[i].end = behind(ws, notes, i + 1, n) as u16;
     }
 }
 
 // The place behind the k records at `at`, or behind all the words where fewer are left: one step for each record. A payload that claims millions of
 // children costs nothing, since no more records can be left than words.
-pub fn behind(ws: &[u32], notes: &[u32], at: usize, k: usize) -> usize
+pub fn behind(ws: &[u32], notes: &[Note], at: usize, k: usize) -> usize
     requires { Ends ws.now notes.now at }
     ensures { result ≡ end_of ws.now at k }
 {
     let mut q = at;
-    let mut i = 0;
-    while i < k {
+    for _ in 0..k {
         if ws.len() <= q {
             return q;
         }
-        q = (notes[q] / 65536) as usize;
-        i += 1;
+        q = notes[q].end as usize;
     }
     q
 }

@@ -1,13 +1,36 @@
 -- The contracts of the walkers that write the symbol report: what they ask, and what they leave. Definitions only.
-use Rattle.std.specs.Prelude.{Bool, true, false, List, [], ◌∷◌, ℕ, ◌+◌, ◌-◌, ◌*◌, ◌<◌, length}
-use Rattle.std.proofs.Math.Option.{Option, none, some}
+use Rattle.std.specs.Prelude.{◌≡◌, Bool, true, false, List, [], ◌∷◌, ℕ, ◌+◌, ◌-◌, ◌*◌, ◌<◌, length}
+use Rattle.records.specs.declared.Note.{Note}
+use Rattle.std.specs.declared.option.Option.{Option}
+use Rattle.std.specs.declared.option.Option.TheVariants.{None as none, Some as some}
 use Rattle.records.specs.Label.{Label, ◌∶◌, words}
 use Rattle.output.specs.Overlay.{Wrote}
-use Rattle.rewriting.specs.Visit.{Around, State, Key, class_symbol, named_symbols}
+use Rattle.rewriting.specs.Visit.{Default, Key, Inner, Alias, class_symbol, named_symbols}
+use Rattle.rewriting.specs.declared.Around.{Around}
+use Rattle.rewriting.specs.declared.State.{State}
 use Rattle.walk_laws.specs.Rows.{visit_at}
-use Rattle.counter.specs.declared.Scope.{Scope}
-use Rattle.counter.specs.Contract.{around_of, state_of, Ready, Counts}
-use Rattle.report_walk.specs.declared.Reported.{Reported}
+use Rattle.walk_laws.specs.Kinds.{is_element_kind}
+use Rattle.counter.specs.Contract.{Ready, Counts}
+use Rattle.report_walk.specs.declared.Sort.{Sort}
+use Rattle.report_walk.specs.declared.Sort.TheVariants.{Default as default_sort, Key as key_sort, Inner as inner_sort, Alias as alias_sort}
+use Rattle.report_walk.specs.declared.Role.{Role}
+use Rattle.report_walk.specs.declared.Role.TheVariants.{Statement, Expression, Element, Other}
+use Rattle.report_walk.specs.declared.Walk.{Walk}
+
+-- ---- what the two enums stand for
+
+abbrev pub number : Sort → ℕ
+number default_sort = Default
+number key_sort = Key
+number inner_sort = Inner
+number alias_sort = Alias
+
+-- a record of the kind k has this role
+abbrev pub HasRole : Role → ℕ → Type 0
+HasRole Statement k = k ≡ 4
+HasRole Expression k = k ≡ 20
+HasRole Element k = is_element_kind k ≡ true
+HasRole Other k = (k ≡ 4 → ⊥) × (k ≡ 20 → ⊥) × (k ≡ 30 → ⊥) × (k ≡ 31 → ⊥) × (k ≡ 32 → ⊥)
 
 -- ---- the symbols that a record takes itself, n or s being the state before
 
@@ -21,10 +44,28 @@ unfoldable pub decorated_fresh : Option ℕ → Bool → State → List Label
 decorated_fresh (some c) m s = (named_symbols m c s.next).fresh
 decorated_fresh none m s = (class_symbol none s.default s).fresh
 
+unfoldable pub decorated_state : Option ℕ → Bool → State → State
+decorated_state (some c) m s = record { next = (named_symbols m c s.next).next; default = s.default }
+decorated_state none m s = (class_symbol none s.default s).after
+
 -- rule 6: a live class; b: whether it is decorated
 unfoldable pub class_fresh : Bool → Option ℕ → Bool → State → List Label
 class_fresh true id m s = decorated_fresh id m s
 class_fresh false id m s = []
+
+unfoldable pub class_state : Bool → Option ℕ → Bool → State → State
+class_state true id m s = decorated_state id m s
+class_state false id m s = s
+
+-- the state once a symbol is taken that is no default symbol
+abbrev pub more : State → State
+more s = record { next = s.next + 1; default = s.default }
+
+-- what is left where the symbols xs are taken: their words in the slice, and the state s behind them. w and o before, r and o' after
+pub record Takes (xs : List Label) (s : State) (w : Walk) (o : List ℕ) (r : Walk) (o' : List ℕ) : Type 0 where
+  pub place : r.at ≡ w.at
+  pub state : r.state ≡ s
+  pub wrote : Wrote o w.pos (words xs) o' r.pos
 
 -- ---- the walkers
 
@@ -32,12 +73,12 @@ class_fresh false id m s = []
 unfoldable pub report_at : List ℕ → ℕ → ℕ → Around → State → List ℕ
 report_at ws at k around s = words (visit_at ws at k around s).fresh
 
--- what a walker at the place `at` with the counter n asks, writing from `pos` on: what the counter asks, and two places for each word left to read
-pub record Asks (ws notes : List ℕ) (at n pos : ℕ) : Type 0 where
-  pub ready : Ready ws notes at n
-  pub places : pos + 2 * (length ws - at) < 67108864
+-- what a walker asks: what the counter asks, and two places for each word left to read
+pub record Asks (ws : List ℕ) (notes : List Note) (w : Walk) : Type 0 where
+  pub ready : Ready ws notes w.at w.state.next
+  pub places : w.pos + 2 * (length ws - w.at) < 67108864
 
--- what it leaves for the k records at `at`, from the state n, d on: the counter's answer, and their words in the slice, o before and o' after
-pub record Reports (ws : List ℕ) (at k : ℕ) (a : Scope) (n d : ℕ) (o : List ℕ) (pos : ℕ) (o' : List ℕ) (r : Reported) : Type 0 where
-  pub counts : Counts ws at k a n d (record { at = r.at; next = r.next; default = r.default })
-  pub wrote : Wrote o pos (report_at ws at k (around_of a) (state_of n d)) o' r.pos
+-- what it leaves for the next k records: the counter's answer, and their words in the slice. w and o before, r and o' after
+pub record Reports (ws : List ℕ) (k : ℕ) (a : Around) (w : Walk) (o : List ℕ) (r : Walk) (o' : List ℕ) : Type 0 where
+  pub counts : Counts ws w.at k a w.state (record { at = r.at; state = r.state })
+  pub wrote : Wrote o w.pos (report_at ws w.at k a w.state) o' r.pos

@@ -1,312 +1,209 @@
 // The symbol report of some records: one word for each fresh symbol, in order of need. Reads the words, writes the report, reads nothing back from it.
 #![tactic(auto)]
 
-ghost use Rattle.std.specs.Prelude.{◌+◌, ◌<◌, ◌≡◌, true, eqb, length, get_or};
-ghost use Rattle.records.specs.Label.{words};
-ghost use Rattle.records.specs.Ends.{Ends};
+ghost use Rattle.std.specs.Prelude.{◌+◌, ◌<◌, ◌≡◌, [], ◌∷◌, true, length, get_or};
+ghost use Rattle.records.specs.Label.{◌∶◌};
+ghost use Rattle.records.specs.Ends.{Ends, blank};
 ghost use Rattle.records.specs.Place.{label_at, kids_at};
-ghost use Rattle.output.specs.Overlay.{Wrote};
 ghost use Rattle.rewriting.specs.Parts.{has_plain_key, is_decorated};
 ghost use Rattle.rewriting.specs.Visit.{class_symbol};
-ghost use Rattle.inspect.specs.Child.{opt_of};
+ghost use Rattle.walk_laws.specs.After.{key_after};
 ghost use Rattle.walk_laws.specs.Kinds.{is_element_kind};
-ghost use Rattle.counter.specs.Contract.{state_of, mark_in, Planned};
-ghost use Rattle.report_walk.specs.Contract.{key_fresh, class_fresh, Asks, Reports};
+ghost use Rattle.counter.specs.Contract.{Planned};
+ghost use Rattle.report_walk.specs.Contract.{number, HasRole, key_fresh, class_fresh, class_state, more, Takes, Asks, Reports};
 
-use counter::{Count, Scope};
-use inspect::NONE;
+use records::Note;
+use rewriting::{Around, State};
 
-// The sorts of fresh symbols.
-const DEFAULT: u32 = 1;
-
-const KEY: u32 = 2;
-
-const INNER: u32 = 3;
-
-const ALIAS: u32 = 4;
-
-// Where the walk stands: in the words read and in the report. The next fresh symbol, and the default symbol of the class around.
+// The sorts of fresh symbols, by their numbers in the report.
 #[derive(Clone, Copy)]
-pub struct Reported {
-    pub at: usize,
-    pub pos: usize,
-    pub next: u32,
-    pub default: u32,
+enum Sort {
+    Default = 1,
+    Key = 2,
+    Inner = 3,
+    Alias = 4,
 }
 
-// The k records at `at`; the report's words go to `out` from `pos` on. notes: where the record at each place ends, and its mark.
+// What a record is to the report.
+#[derive(Clone, Copy)]
+enum Role {
+    // A class statement.
+    Statement,
+    // A class expression.
+    Expression,
+    // A method, constructor, property or accessor.
+    Element,
+    Other,
+}
+
+// Where the walk stands in the words read and in the report; the next fresh symbol and the default symbol of the class around.
+#[derive(Clone, Copy)]
+pub struct Walk {
+    pub at: usize,
+    pub pos: usize,
+    pub state: State,
+}
+
+impl Walk {
+    // Takes the next fresh symbol: its word goes to `out`.
+    fn put(mut self, sort: Sort, out: &mut [u32]) -> Walk
+        requires { (self.state.next < 67108864) × (self.pos < 67108864) }
+        ensures { Takes ((number sort ∶ self.state.next) ∷ []) (more self.state) self out.old result out.new }
+    {
+        self.pos = output::put(out, self.pos, words::word_of(sort as u32, self.state.next));
+        self.state.next += 1;
+        self
+    }
+}
+
+// The next k records; the report's words go to `out`. notes: where the record at each place ends, and its mark.
 #[cycle(report)]
 pub fn report_records(
     ws: &[u32],
-    notes: &[u32],
-    at: usize,
+    notes: &[Note],
     k: usize,
-    a: Scope,
-    s: Count,
+    a: Around,
+    mut w: Walk,
     out: &mut [u32],
-    pos: usize,
-) -> Reported
-    requires { Asks ws.now notes.now at s.next pos }
-    ensures { Reports ws.now at k a s.next s.default out.old pos out.new result }
+) -> Walk
+    requires { Asks ws.now notes.now w }
+    ensures { Reports ws.now k a w out.old result out.new }
 {
-    let mut q = at;
-    let mut p = pos;
-    let mut i = 0;
-    let mut n = s.next;
-    let mut d = s.default;
-    while i < k {
-        if ws.len() <= q {
-            return Reported {
-                at: q,
-                pos: p,
-                next: n,
-                default: d,
-            };
+    for _ in 0..k {
+        if ws.len() <= w.at {
+            return w;
         }
-        let r = report_record(
-            ws,
-            notes,
-            q,
-            a,
-            Count {
-                next: n,
-                default: d,
-            },
-            out,
-            p,
-        );
-        q = r.at;
-        p = r.pos;
-        n = r.next;
-        d = r.default;
-        i += 1;
+        w = report_record(ws, notes, a, w, out);
     }
-    Reported {
-        at: q,
-        pos: p,
-        next: n,
-        default: d,
+    w
+}
+
+// The next record.
+#[cycle(report)]
+pub fn report_record(ws: &[u32], notes: &[Note], a: Around, mut w: Walk, out: &mut [u32]) -> Walk
+    requires { Asks ws.now notes.now w × (w.at < length ws.now) }
+    ensures { Reports ws.now 1 a w out.old result out.new }
+{
+    match role_at(ws, w.at) {
+        Role::Statement => report_class_statement(ws, notes, w, out),
+        Role::Expression => report_class_expression(ws, notes, w, out),
+        Role::Element => report_element(ws, notes, a, w, out),
+        Role::Other => {
+            let k = inspect::children_at(ws, w.at);
+            w.at += 1;
+            report_records(ws, notes, k, a, w, out)
+        }
+    }
+}
+
+fn role_at(ws: &[u32], at: usize) -> Role
+    ensures { HasRole result (label_at ws.now at).kind }
+{
+    match inspect::kind_at(ws, at) {
+        4 => Role::Statement,
+        20 => Role::Expression,
+        30 | 31 | 32 => Role::Element,
+        _ => Role::Other,
     }
 }
 
 #[cycle(report)]
-pub fn report_record(
-    ws: &[u32],
-    notes: &[u32],
-    at: usize,
-    a: Scope,
-    s: Count,
-    out: &mut [u32],
-    pos: usize,
-) -> Reported
-    requires { Asks ws.now notes.now at s.next pos × (at < length ws.now) }
-    ensures { Reports ws.now at 1 a s.next s.default out.old pos out.new result }
+fn report_class_expression(ws: &[u32], notes: &[Note], mut w: Walk, out: &mut [u32]) -> Walk
+    requires { Asks ws.now notes.now w × (w.at < length ws.now) × ((label_at ws.now w.at).kind ≡ 20) }
+    ensures { (a : Around) → Reports ws.now 1 a w out.old result out.new }
 {
-    let k = inspect::kind_at(ws, at);
-    match k {
-        4 => report_class_statement(ws, notes, at, a, s, out, pos),
-        20 => report_class_expression(ws, notes, at, a, s, out, pos),
-        30 => report_element(ws, notes, at, a, s, out, pos),
-        31 => report_element(ws, notes, at, a, s, out, pos),
-        32 => report_element(ws, notes, at, a, s, out, pos),
-        _ => report_records(
-            ws,
-            notes,
-            at + 1,
-            inspect::children_at(ws, at),
-            a,
-            s,
-            out,
-            pos,
-        ),
-    }
-}
-
-#[cycle(report)]
-fn report_class_expression(
-    ws: &[u32],
-    notes: &[u32],
-    at: usize,
-    a: Scope,
-    s: Count,
-    out: &mut [u32],
-    pos: usize,
-) -> Reported
-    requires { Asks ws.now notes.now at s.next pos × (at < length ws.now) × ((label_at ws.now at).kind ≡ 20) }
-    ensures { Reports ws.now at 1 a s.next s.default out.old pos out.new result }
-{
-    let r = report_records(
-        ws,
-        notes,
-        at + 1,
-        1,
-        Scope {
-            live: false,
-            id: NONE,
-        },
-        Count {
-            next: s.next,
-            default: NONE,
-        },
-        out,
-        pos,
-    );
-    Reported {
-        at: r.at,
-        pos: r.pos,
-        next: r.next,
-        default: s.default,
-    }
+    let around = w.state.default;
+    w.at += 1;
+    w.state.default = None;
+    let a = Around {
+        live: false,
+        id: None,
+    };
+    w = report_records(ws, notes, 1, a, w, out);
+    w.state.default = around;
+    w
 }
 
 // A method, constructor, property or accessor.
 #[cycle(report)]
-fn report_element(
-    ws: &[u32],
-    notes: &[u32],
-    at: usize,
-    a: Scope,
-    s: Count,
-    out: &mut [u32],
-    pos: usize,
-) -> Reported
-    requires { Asks ws.now notes.now at s.next pos × (at < length ws.now) × (is_element_kind (label_at ws.now at).kind ≡ true) }
-    ensures { Reports ws.now at 1 a s.next s.default out.old pos out.new result }
+fn report_element(ws: &[u32], notes: &[Note], a: Around, mut w: Walk, out: &mut [u32]) -> Walk
+    requires { Asks ws.now notes.now w × (w.at < length ws.now) × (is_element_kind (label_at ws.now w.at).kind ≡ true) }
+    ensures { Reports ws.now 1 a w out.old result out.new }
 {
-    let r = report_records(
-        ws,
-        notes,
-        at + 1,
-        inspect::children_at(ws, at),
-        a,
-        s,
-        out,
-        pos,
-    );
-    if !a.live {
-        return r;
+    let at = w.at;
+    w.at += 1;
+    w = report_records(ws, notes, inspect::children_at(ws, at), a, w, out);
+    if !a.live || !notes[at].marked {
+        return w;
     }
-    if notes[at] % 2 != 1 {
-        return r;
-    }
-    let u = Count {
-        next: r.next,
-        default: r.default,
-    };
-    let t = counter::class_symbol(a, u);
-    let p = put_class_symbol(a.id, u, out, r.pos);
-    let v = counter::key_symbol(ws, notes, at, t);
-    Reported {
-        at: r.at,
-        pos: put_key_symbol(ws, notes, at, t.next, out, p),
-        next: v.next,
-        default: v.default,
-    }
+    let t = put_class_symbol(a.id, w, out);
+    put_key_symbol(ws, notes, at, t, out)
 }
 
-// Rule 4: the word of the default symbol, if the class takes one now.
-fn put_class_symbol(id: u32, s: Count, out: &mut [u32], pos: usize) -> usize
-    requires { (s.next < 67108864) × (pos < 67108864) }
-    ensures { Wrote out.old pos (words (class_symbol (opt_of id) (opt_of s.default) (state_of s.next s.default)).fresh) out.new result }
+// Rule 4: the default symbol, if the class takes one now. id: that of the class.
+fn put_class_symbol(id: Option<u32>, w: Walk, out: &mut [u32]) -> Walk
+    requires { (w.state.next < 67108864) × (w.pos < 67108864) }
+    ensures { Takes (class_symbol id w.state.default w.state).fresh (class_symbol id w.state.default w.state).after w out.old result out.new }
 {
-    if id != NONE {
-        return pos;
+    if id.is_some() || w.state.default.is_some() {
+        return w;
     }
-    if s.default != NONE {
-        return pos;
-    }
-    output::put(out, pos, words::word_of(DEFAULT, s.next))
+    let mut r = w.put(Sort::Default, out);
+    r.state.default = Some(w.state.next);
+    r
 }
 
-// Rule 5: the word of the symbol of the key of the member at `at`, if it takes one.
-fn put_key_symbol(
-    ws: &[u32],
-    notes: &[u32],
-    at: usize,
-    next: u32,
-    out: &mut [u32],
-    pos: usize,
-) -> usize
-    requires { (next < 67108864) × (pos < 67108864) × Ends ws.now notes.now 0 }
-    ensures { Wrote out.old pos (words (key_fresh (has_plain_key (kids_at ws.now at)) next)) out.new result }
+// Rule 5: the symbol of the key of the member at `at`, if it takes one.
+fn put_key_symbol(ws: &[u32], notes: &[Note], at: usize, w: Walk, out: &mut [u32]) -> Walk
+    requires { (w.state.next < 67108864) × (w.pos < 67108864) × Ends ws.now notes.now 0 }
+    ensures { Takes (key_fresh (has_plain_key (kids_at ws.now at)) w.state.next) (key_after (has_plain_key (kids_at ws.now at)) w.state) w out.old result out.new }
 {
     if inspect::plain_key(ws, notes, at) {
-        return pos;
+        return w;
     }
-    output::put(out, pos, words::word_of(KEY, next))
+    w.put(Sort::Key, out)
 }
 
 #[cycle(report)]
-fn report_class_statement(
-    ws: &[u32],
-    notes: &[u32],
-    at: usize,
-    a: Scope,
-    s: Count,
-    out: &mut [u32],
-    pos: usize,
-) -> Reported
-    requires { Asks ws.now notes.now at s.next pos × (at < length ws.now) × ((label_at ws.now at).kind ≡ 4) }
-    ensures { Reports ws.now at 1 a s.next s.default out.old pos out.new result }
+fn report_class_statement(ws: &[u32], notes: &[Note], mut w: Walk, out: &mut [u32]) -> Walk
+    requires { Asks ws.now notes.now w × (w.at < length ws.now) × ((label_at ws.now w.at).kind ≡ 4) }
+    ensures { (a : Around) → Reports ws.now 1 a w out.old result out.new }
 {
-    let id = inspect::class_id(ws, notes, at + 1);
+    let at = w.at;
+    let around = w.state.default;
     let live = inspect::is_live(ws, at + 1);
-    let r = report_records(
-        ws,
-        notes,
-        at + 1,
-        1,
-        Scope { live, id },
-        Count {
-            next: s.next,
-            default: NONE,
-        },
-        out,
-        pos,
-    );
+    let id = inspect::class_id(ws, notes, at + 1);
+    w.at += 1;
+    w.state.default = None;
+    w = report_records(ws, notes, 1, Around { live, id }, w, out);
     if live {
-        let t = Count {
-            next: r.next,
-            default: r.default,
-        };
-        let p = put_class_symbols(ws, notes, at, id, t, out, r.pos);
-        return Reported {
-            at: r.at,
-            pos: p,
-            next: counter::class_symbols(ws, notes, at, id, t),
-            default: s.default,
-        };
+        w = put_class_symbols(ws, notes, at, id, w, out);
     }
-    Reported {
-        at: r.at,
-        pos: r.pos,
-        next: r.next,
-        default: s.default,
-    }
+    w.state.default = around;
+    w
 }
 
-// Rule 6: the words of the symbols of the live class of the statement at `at`; s is the state behind its children.
+// Rule 6: the symbols of the live class of the statement at `at`; the walk stands behind its children.
 fn put_class_symbols(
     ws: &[u32],
-    notes: &[u32],
+    notes: &[Note],
     at: usize,
-    id: u32,
-    s: Count,
+    id: Option<u32>,
+    w: Walk,
     out: &mut [u32],
-    pos: usize,
-) -> usize
-    requires { Planned ws.now notes.now × (at + 1 < length ws.now) × ((label_at ws.now (at + 1)).kind ≡ 26) × (at < 67108864) × (s.next + 1 < 67108864) × (pos + 1 < 67108864) }
-    ensures { Wrote out.old pos (words (class_fresh (is_decorated (kids_at ws.now (at + 1))) (opt_of id) (mark_in (get_or notes.now at 0)) (state_of s.next s.default))) out.new result }
+) -> Walk
+    requires { Planned ws.now notes.now × (at + 1 < length ws.now) × ((label_at ws.now (at + 1)).kind ≡ 26) × (at < 67108864) × (w.state.next + 1 < 67108864) × (w.pos + 1 < 67108864) }
+    ensures { Takes (class_fresh (is_decorated (kids_at ws.now (at + 1))) id (get_or notes.now at blank).marked w.state) (class_state (is_decorated (kids_at ws.now (at + 1))) id (get_or notes.now at blank).marked w.state) w out.old result out.new }
 {
-    if notes[at + 1] % 2 != 1 {
-        return pos;
+    if !notes[at + 1].marked {
+        return w;
     }
-    if id == NONE {
-        return put_class_symbol(id, s, out, pos);
+    if id.is_none() {
+        return put_class_symbol(id, w, out);
     }
-    let p = output::put(out, pos, words::word_of(INNER, s.next));
-    if notes[at] % 2 == 1 {
-        return output::put(out, p, words::word_of(ALIAS, s.next + 1));
+    let r = w.put(Sort::Inner, out);
+    if notes[at].marked {
+        return r.put(Sort::Alias, out);
     }
-    p
+    r
 }

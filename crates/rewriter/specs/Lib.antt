@@ -1,3 +1,4 @@
 pub mod Numbers
+pub mod Lends
 pub mod Start
 pub mod Result

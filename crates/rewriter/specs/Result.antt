@@ -2,74 +2,62 @@
 use Rattle.std.proofs.Math.Path.{◌≡◌, refl, ap, sym}
 use Rattle.std.proofs.Common.{subst, ◌∙◌, arith, length-set, take-suc-set, add-zero}
 use Rattle.std.proofs.Math.Bool.{true, false}
-use Rattle.std.proofs.Math.Option.{Option, none}
+use Rattle.std.specs.declared.option.Option.TheVariants.{None as none}
 use mathlib.Core.List.{List, [], ◌∷◌, ◌++◌, map, append-nil, append_assoc}
 use Prim.Native.Nat.{ℕ, zero, suc, ◌+◌, ◌-◌, ◌<◌, ◌≤◌}
 use Rattle.std.proofs.Math.Dec.{eqb}
 use borrow.Author.Tests.{eq-eqb, ne_eqb, lt-ltb, le-ltb}
-use Rattle.std.specs.Prelude.{length, take, set}
+use Rattle.std.specs.Prelude.{length, take, set, Result as Outcome, Ok, Err, IfOk}
 use Rattle.std.proofs.lemmas.List.{length-map}
-use Rattle.records.specs.Forest.{flat, take_f, size}
+use Rattle.records.specs.Forest.{flat, size}
 use Rattle.records.specs.Label.{Label, Trees, word_at, words, ◌∶◌, read_at}
+use Rattle.records.specs.declared.Note.{Note}
 use Rattle.records.specs.Place.{records_at, label_at}
+use Rattle.grammar.specs.declared.Refusal.{Refusal}
+use Rattle.grammar.specs.Refusals.{number_of}
+use Rattle.grammar.proofs.RefusalLaws.{number_some}
 use Rattle.output.specs.Overlay.{overlay, Wrote}
 use Rattle.grammar.specs.Scan.{refusal, symbols_of}
 use Rattle.grammar.specs.WellFormed.{tree_of}
-use Rattle.rewriting.specs.Visit.{Around, State, Result, visit, module_of, visit_words, outermost, rewritten, reported}
+use Rattle.rewriting.specs.Visit.{Result, visit, module_of, visit_words, outermost, rewritten, reported}
+use Rattle.rewriting.specs.declared.State.{State}
 use Rattle.rewriting.proofs.Fresh.{fresh_length}
 use Rattle.rewriting.proofs.Length.{module_length}
+use Rattle.rewriting.proofs.Room.{by_case}
 use Rattle.rewriting.specs.Parts.{any_record, is_refused7}
 use Rattle.rewriting.specs.Answer.{Answer, accepted, refused, turned_back, module_words, report_words, answer_of, lent_after, rewrite_answer, rewrite_lent}
 use Rattle.rewriting.specs.DemandWords.{DemandWords}
 use Rattle.rewriting.proofs.DemandAccepted.{demand_words}
 use Rattle.class_stack.specs.Renaming.{Sub, capacity, Ready as StackReady, entries, subs}
 use Rattle.class_stack.specs.declared.ClassStack.{ClassStack}
-use Rattle.inspect.specs.Child.{opt_none}
 use Rattle.walk_laws.specs.Rows.{visit_at}
 use Rattle.walk_laws.specs.Written.{word_by, written}
-use Rattle.counter.specs.Contract.{around_of, state_of, Planned, Annotated}
-use Rattle.counter.specs.declared.Scope.{Scope}
-use Rattle.counter.specs.declared.Count.{Count}
+use Rattle.counter.specs.Contract.{unlive, Planned, Annotated}
 use Rattle.transform.specs.Under.{word_under, under_none}
 use Rattle.transform.specs.Nest.{nest_at, nest, nest_height}
-use Rattle.transform.specs.Contract.{word_below, words_of, state_in, here_at, after_at, Asks, Emitted}
+use Rattle.transform.specs.Contract.{begun, word_below, words_of, here_at, after_at, Asks, Emitted}
 use Rattle.transform.specs.Steps.{length_words}
-use Rattle.transform.specs.declared.Went.{Went}
+use Rattle.transform.specs.declared.Walk.{Walk}
+use Rattle.rewriter.specs.declared.Written.{Written}
+use Rattle.rewriter.specs.Numbers.{numbers_of}
+use Rattle.rewriter.specs.Lends.{Lends}
 use Rattle.rewriter.specs.Start.{well, records_tree, records_module, start_ready, whole_record}
 
 -- the module's words were written from the start of o on; r says how many they are, and the next symbol
-pub record Writes (ws o o' : List ℕ) (r : Went) : Type 0 where
+pub record Writes (ws o o' : List ℕ) (r : Walk) : Type 0 where
   pub wrote : Wrote o 0 (module_words ws) o' r.pos
-  pub next : r.next ≡ symbols_of ws + length (report_words ws)
-
--- no class is around, and the counter starts at S
-abbrev pub start_scope : Scope
-start_scope = record { live = false; id = 67108864 }
-
-abbrev pub start_count : List ℕ → Count
-start_count ws = record { next = symbols_of ws; default = 67108864 }
+  pub next : r.state.next ≡ symbols_of ws + length (report_words ws)
 
 module _ (ws : List ℕ) (ok : refusal ws ≡ 0) where
-  around_start : around_of start_scope ≡ outermost
-  unfolding around_of outermost
-  around_start = ap (λ (o : Option ℕ). record { live = false; id = o }) opt_none
+  pub visit_start : visit_at ws 0 1 unlive (begun (symbols_of ws)) ≡ visit_words (symbols_of ws) ws
+  unfolding visit_at visit_words outermost
+  visit_start = ap (λ (f : Trees). visit unlive f (begun (symbols_of ws))) (whole_record ws ok)
 
-  state_start : state_in (start_count ws) ≡ record { next = symbols_of ws; default = none }
-  unfolding state_in state_of
-  state_start = ap (λ (o : Option ℕ). record { next = symbols_of ws; default = o }) opt_none
-
-  pub visit_start : visit_at ws 0 1 (around_of start_scope) (state_in (start_count ws)) ≡ visit_words (symbols_of ws) ws
-  unfolding visit_at visit_words
-  visit_start =
-      ap (λ (x : Around). visit x (take_f 1 (records_at ws 0)) (state_in (start_count ws))) around_start
-      ∙ ap (λ (f : Trees). visit outermost f (state_in (start_count ws))) (whole_record ws ok)
-      ∙ ap (λ (s : State). visit outermost (module_of ws) s) state_start
-
-  here_start : here_at ws 0 1 start_scope (start_count ws) ≡ (visit_words (symbols_of ws) ws).here
+  here_start : here_at ws 0 1 unlive (begun (symbols_of ws)) ≡ (visit_words (symbols_of ws) ws).here
   unfolding here_at
   here_start = ap (λ (r : Result). r.here) visit_start
 
-  after_start : after_at ws 0 1 start_scope (start_count ws) ≡ (visit_words (symbols_of ws) ws).after
+  after_start : after_at ws 0 1 unlive (begun (symbols_of ws)) ≡ (visit_words (symbols_of ws) ws).after
   unfolding after_at
   after_start = ap (λ (r : Result). r.after) visit_start
 
@@ -94,12 +82,12 @@ module _ (ws : List ℕ) (ok : refusal ws ≡ 0) where
     plain_list (l ∷ ls) = rw (same_word l, plain_list ls)
 
     -- the words under no class are the rewriting's
-    plain_words : words_of c (here_at ws 0 1 start_scope (start_count ws)) ≡ module_words ws
+    plain_words : words_of c (here_at ws 0 1 unlive (begun (symbols_of ws))) ≡ module_words ws
     unfolding words_of written module_words rewritten words
-    plain_words = plain_list (flat (here_at ws 0 1 start_scope (start_count ws))) ∙ ap (λ (f : Trees). map word_at (flat f)) here_start
+    plain_words = plain_list (flat (here_at ws 0 1 unlive (begun (symbols_of ws)))) ∙ ap (λ (f : Trees). map word_at (flat f)) here_start
 
-    start_size : size (here_at ws 0 1 start_scope (start_count ws)) ≡ length (module_words ws)
-    start_size = sym (length_words c (here_at ws 0 1 start_scope (start_count ws))) ∙ ap length plain_words
+    start_size : size (here_at ws 0 1 unlive (begun (symbols_of ws))) ≡ length (module_words ws)
+    start_size = sym (length_words c (here_at ws 0 1 unlive (begun (symbols_of ws)))) ∙ ap length plain_words
 
     start_tree : nest_at ws 0 1 ≡ nest (tree_of ws)
     unfolding nest_at
@@ -108,7 +96,7 @@ module _ (ws : List ℕ) (ok : refusal ws ≡ 0) where
     start_nest : nest_at ws 0 1 ≤ capacity
     start_nest = omega (arith, start_tree, nest_height (tree_of ws) (well ws ok).fits, (well ws ok).depth)
 
-    pub start_asks : (notes : List ℕ) → Planned ws notes → Annotated ws notes 0 → StackReady c → Asks ws notes 0 1 (symbols_of ws) c 0 (size (here_at ws 0 1 start_scope (start_count ws)))
+    pub start_asks : (notes : List Note) → Planned ws notes → Annotated ws notes 0 → StackReady c → Asks ws notes 0 1 (symbols_of ws) c 0 (size (here_at ws 0 1 unlive (begun (symbols_of ws))))
     start_asks notes p t r = record {
       ready = start_ready ws ok notes p;
       noted = t;
@@ -122,39 +110,43 @@ module _ (ws : List ℕ) (ok : refusal ws ≡ 0) where
     unfolding visit_words report_words reported words
     start_next = sym (fresh_length (module_of ws) outermost (record { next = symbols_of ws; default = none })) ∙ ap (λ (n : ℕ). symbols_of ws + n) (sym (rw length-map))
 
-    pub start_writes : {o o' : List ℕ} {r : Went} → Emitted ws 0 1 start_scope (start_count ws) c o 0 o' r → Writes ws o o' r
+    pub start_writes : {o o' : List ℕ} {r : Walk} → Emitted ws 0 1 unlive (begun (symbols_of ws)) c o 0 0 o' r → Writes ws o o' r
     start_writes {o} {o'} {r} e = record {
       wrote = subst (λ (l : List ℕ). Wrote o 0 l o' r.pos) plain_words e.moved.wrote;
-      next = sym (ap (λ (s : State). s.next) (sym after_start ∙ e.moved.state) ∙ (unfold state_of in refl)) ∙ start_next;
+      next = sym (ap (λ (s : State). s.next) (sym after_start ∙ e.moved.state)) ∙ start_next;
     }
 
     -- the same when the counter's start is another name of S
-    pub start_writes_at : (s : ℕ) → s ≡ symbols_of ws → {o o' : List ℕ} {r : Went} → Emitted ws 0 1 start_scope (record { next = s; default = 67108864 }) c o 0 o' r → Writes ws o o' r
-    start_writes_at s e {o} {o'} {r} h = start_writes (subst (λ (k : ℕ). Emitted ws 0 1 start_scope (record { next = k; default = 67108864 }) c o 0 o' r) e h)
+    pub start_writes_at : (s : ℕ) → s ≡ symbols_of ws → {o o' : List ℕ} {r : Walk} → Emitted ws 0 1 unlive (begun s) c o 0 0 o' r → Writes ws o o' r
+    start_writes_at s e {o} {o'} {r} h = start_writes (subst (λ (k : ℕ). Emitted ws 0 1 unlive (begun k) c o 0 0 o' r) e h)
 
--- ---- the answers of any call that writes xs
+-- ---- the answers of any job that writes xs
 
 module _ (ws xs o : List ℕ) where
-  pub answer_back : (v : ℕ) → v ≡ turned_back ws → (v ≡ 0 → ⊥) → record { code = v; written = 0; fresh = 0 } ≡ answer_of ws xs (length o)
-  unfolding answer_of refused
-  answer_back v e h = let n : eqb (turned_back ws) 0 ≡ false = ne_eqb (turned_back ws) 0 (λ z. h (e ∙ z)) in rw n (ap (λ (x : ℕ). record { code = x; written = 0; fresh = 0 }) e)
+  pub answer_back : (r : Refusal) → number_of r ≡ turned_back ws → refused (number_of r) ≡ answer_of ws xs (length o)
+  unfolding answer_of
+  answer_back r e = let n : eqb (turned_back ws) 0 ≡ false = ne_eqb (turned_back ws) 0 (λ z. omega (arith, number_some r, e, z)) in rw n (ap refused e)
 
-  pub answer_8 : turned_back ws ≡ 0 → length o < length xs → record { code = 8; written = 0; fresh = 0 } ≡ answer_of ws xs (length o)
-  unfolding answer_of refused
+  pub answer_8 : turned_back ws ≡ 0 → length o < length xs → refused 8 ≡ answer_of ws xs (length o)
+  unfolding answer_of
   answer_8 e h = rw (eq-eqb (turned_back ws) 0 e, lt-ltb (length o) (length xs) h)
 
-  pub answer_0 : turned_back ws ≡ 0 → length xs ≤ length o → record { code = 0; written = length xs; fresh = length (report_words ws) } ≡ answer_of ws xs (length o)
-  unfolding answer_of accepted
+  pub answer_0 : turned_back ws ≡ 0 → length xs ≤ length o → accepted (length xs) (length (report_words ws)) ≡ answer_of ws xs (length o)
+  unfolding answer_of
   answer_0 e h = rw (eq-eqb (turned_back ws) 0 e, le-ltb (length o) (length xs) h)
 
-  -- a refusal leaves the output as it was, whatever was to be written
-  pub lent_back : (r : Answer) → r ≡ answer_of ws xs (length o) → (r.code ≡ 0 → ⊥) → (ys : List ℕ) → o ≡ lent_after (answer_of ws xs (length o)) ys o
-  unfolding lent_after
-  lent_back r e h ys = let f : eqb (answer_of ws xs (length o)).code 0 ≡ false = ne_eqb (answer_of ws xs (length o)).code 0 (λ z. h (ap (λ (x : Answer). x.code) e ∙ z)) in rw f
+  -- a refusal leaves the output as it was
+  pub lends_back : (Same : List ℕ → List ℕ → Type 0) → Same xs xs → (r : Refusal) → refused (number_of r) ≡ answer_of ws xs (length o) → Lends Same ws xs o o
+  unfolding lent_after refused
+  lends_back Same same r e =
+      let f : eqb (answer_of ws xs (length o)).code 0 ≡ false = ne_eqb (answer_of ws xs (length o)).code 0 (λ z. omega (arith, number_some r, ap (λ (x : Answer). x.code) e, z)) in
+      record { order = xs; same = same; lent = rw f }
 
-  pub lent_0 : (r : Answer) → r ≡ answer_of ws xs (length o) → r.code ≡ 0 → overlay o 0 xs ≡ lent_after (answer_of ws xs (length o)) xs o
-  unfolding lent_after
-  lent_0 r e z = let f : eqb (answer_of ws xs (length o)).code 0 ≡ true = eq-eqb (answer_of ws xs (length o)).code 0 (ap (λ (x : Answer). x.code) (sym e) ∙ z) in rw f
+  pub lends_0 : (Same : List ℕ → List ℕ → Type 0) → Same xs xs → (n f : ℕ) → accepted n f ≡ answer_of ws xs (length o) → {o' : List ℕ} → o' ≡ overlay o 0 xs → Lends Same ws xs o o'
+  unfolding lent_after accepted
+  lends_0 Same same n f e {o'} w =
+      let z : eqb (answer_of ws xs (length o)).code 0 ≡ true = eq-eqb (answer_of ws xs (length o)).code 0 (ap (λ (x : Answer). x.code) (sym e)) in
+      record { order = xs; same = same; lent = w ∙ rw z }
 
 -- what was written is found again
 take_overlay : (o xs : List ℕ) (at : ℕ) → at + length xs ≤ length o → take (at + length xs) (overlay o at xs) ≡ take at o ++ xs
@@ -172,24 +164,41 @@ take_written o xs h =
     let z : 0 + length xs ≡ length xs = omega arith in
     ap (λ (k : ℕ). take k (overlay o 0 xs)) (sym z) ∙ take_overlay o xs 0 (omega arith)
 
-pub demand_written : (ws o : List ℕ) (n : ℕ) → turned_back ws ≡ 0 → n ≡ length (module_words ws) → length (module_words ws) ≤ length o → DemandWords ws (take n (overlay o 0 (module_words ws)))
-demand_written ws o n e k h = subst (DemandWords ws) (sym (ap (λ (i : ℕ). take i (overlay o 0 (module_words ws))) k ∙ take_written o (module_words ws) h)) (demand_words ws e)
-
--- an accepted call: its numbers, the output, and demand 3 of the words written
-pub written_whole : (ws o o' : List ℕ) (r : Went) (p : ℕ) → turned_back ws ≡ 0 → Writes ws o o' r → p ≡ symbols_of ws → length (module_words ws) ≤ length o → (record { code = 0; written = r.pos; fresh = r.next - p } ≡ rewrite_answer ws o) × ((o' ≡ rewrite_lent ws o) × DemandWords ws (take r.pos o'))
-unfolding rewrite_answer rewrite_lent
+-- an accepted rewriting: its numbers, and the output
+pub written_whole : (ws o o' : List ℕ) (r : Walk) (p : ℕ) → turned_back ws ≡ 0 → Writes ws o o' r → p ≡ symbols_of ws → length (module_words ws) ≤ length o →
+    (accepted r.pos (r.state.next - p) ≡ answer_of ws (module_words ws) (length o)) × (o' ≡ overlay o 0 (module_words ws))
 written_whole ws o o' r p t w e h =
     let at : r.pos ≡ length (module_words ws) = omega (arith, w.wrote.end) in
-    let more : r.next - p ≡ length (report_words ws) = omega (arith, w.next, e) in
-    let n : record { code = 0; written = r.pos; fresh = r.next - p } ≡ rewrite_answer ws o = ap (λ (k : ℕ). record { code = 0; written = k; fresh = r.next - p }) at ∙ ap (λ (k : ℕ). record { code = 0; written = length (module_words ws); fresh = k }) more ∙ answer_0 ws (module_words ws) o t h in
-    (n, (w.wrote.list ∙ lent_0 ws (module_words ws) o (record { code = 0; written = r.pos; fresh = r.next - p }) n refl, subst (λ (l : List ℕ). DemandWords ws (take r.pos l)) (sym w.wrote.list) (demand_written ws o r.pos t at h)))
+    let more : r.state.next - p ≡ length (report_words ws) = omega (arith, w.next, e) in
+    (ap (λ (k : ℕ). accepted k (r.state.next - p)) at ∙ ap (accepted (length (module_words ws))) more ∙ answer_0 ws (module_words ws) o t h, w.wrote.list)
+
+-- demand 3 of the words that an accepted rewriting wrote
+pub demand_written : (ws o o' : List ℕ) (n f : ℕ) → accepted n f ≡ rewrite_answer ws o → o' ≡ rewrite_lent ws o → DemandWords ws (take n o')
+unfolding rewrite_answer rewrite_lent accepted refused lent_after
+demand_written ws o o' n f e w = by_case ws (module_words ws) (length o) P (λ t. none (turned_back ws) (λ z. t z)) (λ t k. none 8 (λ z. omega arith)) some e (w ∙ ap (λ (a : Answer). lent_after a (module_words ws) o) (sym e))
+  where
+    P : Answer → Type 0
+    P a = accepted n f ≡ a → o' ≡ lent_after (accepted n f) (module_words ws) o → DemandWords ws (take n o')
+
+    none : (c : ℕ) → (c ≡ 0 → ⊥) → P (refused c)
+    none c h g l = absurd (h (sym (ap (λ (a : Answer). a.code) g)))
+
+    some : turned_back ws ≡ 0 → length (module_words ws) ≤ length o → P (accepted (length (module_words ws)) (length (report_words ws)))
+    some t h g l =
+        let k : n ≡ length (module_words ws) = ap (λ (a : Answer). a.written) g in
+        subst (DemandWords ws) (sym (ap (take n) l ∙ ap (λ (i : ℕ). take i (overlay o 0 (module_words ws))) k ∙ take_written o (module_words ws) h)) (demand_words ws t)
+
+pub demand_of : (ws o o' : List ℕ) (r : Outcome Written Refusal) → numbers_of r ≡ rewrite_answer ws o → o' ≡ rewrite_lent ws o → IfOk r (λ w. DemandWords ws (take w.words o'))
+unfolding numbers_of
+demand_of ws o o' (Ok w) e l = demand_written ws o o' w.words w.fresh e l
+demand_of ws o o' (Err r) e l = tt
 
 -- ---- refusals 1 to 7
 
 module _ (ws : List ℕ) where
-  pub back_fault : (v : ℕ) → v ≡ refusal ws → (v ≡ 0 → ⊥) → v ≡ turned_back ws
+  pub back_fault : (r : Refusal) → number_of r ≡ refusal ws → number_of r ≡ turned_back ws
   unfolding turned_back
-  back_fault v e h = let f : eqb (refusal ws) 0 ≡ false = ne_eqb (refusal ws) 0 (λ z. h (e ∙ z)) in rw f e
+  back_fault r e = let f : eqb (refusal ws) 0 ≡ false = ne_eqb (refusal ws) 0 (λ z. omega (arith, number_some r, e, z)) in rw f e
 
   pub back_7 : (v : ℕ) → v ≡ refusal ws → v ≡ 0 → any_record is_refused7 (records_at ws 0) ≡ true → 7 ≡ turned_back ws
   unfolding turned_back

@@ -3,11 +3,12 @@ use Rattle.std.specs.Prelude.{◌≡◌, Bool, true, cond, List, [], ◌∷◌, 
 use Rattle.std.proofs.Math.Path.{refl, subst}
 use Rattle.std.proofs.Common.{sym, ◌∙◌, add-one, arith, eqb-true, ltb-true, ltb-false}
 use Rattle.std.proofs.Math.Bool.{false}
-use Rattle.std.proofs.Math.Option.{none, some}
+use Rattle.std.specs.declared.option.Option.TheVariants.{None as none, Some as some}
 use Rattle.words.specs.Table.{lookup}
 use Rattle.records.specs.Forest.{end, node, take_f, drop_f, append_f, take_drop}
 use Rattle.records.specs.Prefix.{stack_at}
 use Rattle.records.specs.Label.{Label, Trees, is}
+use Rattle.records.specs.declared.Note.{Note}
 use Rattle.records.specs.Place.{records_at, arity_at, kids_at, records_node, kids_past}
 use Rattle.grammar.specs.Grammar.{module', is_symbol}
 use Rattle.grammar.specs.Scan.{refusal, symbols_of}
@@ -89,7 +90,7 @@ module _ (ws : List ℕ) (ok : refusal ws ≡ 0) where
   pub start_fits : Fits (module' ∷ []) (records_at ws 0)
   start_fits = subst (Fits (module' ∷ [])) (sym (records_tree ws)) well.fits
 
-  pub start_ready : (notes : List ℕ) → Planned ws notes → Ready ws notes 0 (symbols_of ws)
+  pub start_ready : (notes : List Note) → Planned ws notes → Ready ws notes 0 (symbols_of ws)
   start_ready notes p = record {
     few = well.sized.few;
     inside = omega arith;
@@ -99,7 +100,7 @@ module _ (ws : List ℕ) (ok : refusal ws ≡ 0) where
     room = omega (arith, well.count, well.sized.few);
   }
 
-  pub ready_at : {notes : List ℕ} (s : ℕ) → s ≡ symbols_of ws → Planned ws notes → Ready ws notes 0 s
+  pub ready_at : {notes : List Note} (s : ℕ) → s ≡ symbols_of ws → Planned ws notes → Ready ws notes 0 s
   ready_at {notes} s e p = subst (λ (n : ℕ). Ready ws notes 0 n) (sym e) (start_ready notes p)
 
   -- a module is one record

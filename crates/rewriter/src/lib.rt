@@ -1,110 +1,135 @@
 // The public call: a module's words rewritten, every refusal in its order. Reads the words, writes the output only once it is known to be long enough.
 #![tactic(auto)]
 
-ghost use Rattle.std.specs.Prelude.{◌≡◌, ◌≤◌, leb, length, take};
+ghost use Rattle.std.specs.Prelude.{◌≡◌, ◌≤◌, ◌*◌, ℕ, List, IfOk, OnOk, leb, length, take, refl};
+ghost use Rattle.std.proofs.Common.{ap};
 ghost use Rattle.grammar.specs.Scan.{refusal};
-ghost use Rattle.rewriting.specs.Answer.{turned_back, module_words, rewrite_answer, rewrite_lent};
+ghost use Rattle.grammar.specs.Refusals.{code_of};
+ghost use Rattle.rewriting.specs.Answer.{turned_back, module_words, answer_of, rewrite_answer, rewrite_lent};
+ghost use Rattle.rewriting.proofs.Length.{module_length};
 ghost use Rattle.rewriting.specs.DemandWords.{DemandWords};
 ghost use Rattle.counter.specs.Contract.{Planned, Annotated};
 ghost use Rattle.rewriter.specs.Numbers.{numbers_of};
+ghost use Rattle.rewriter.specs.Lends.{Lends};
 ghost use Rattle.rewriter.specs.Result.{Writes};
 
-use counter::{Count, Scope};
-use inspect::NONE;
+use grammar::Refusal;
+use records::Note;
 
-// The three numbers of an answer: the refusal, or 0; the words written; the fresh symbols.
-#[derive(Clone, Copy)]
-pub struct Answer {
-    pub code: u32,
-    pub written: usize,
+// What a call wrote: how many words, and how many symbols of them are fresh.
+#[derive(Clone, Copy, Debug, PartialEq, Eq)]
+pub struct Written {
+    pub words: usize,
     pub fresh: u32,
 }
 
-// Rewrites the module in `ws`; the answer's words go to the start of `out`. One that validation refuses takes no notes, any other takes notes of one of
-// three sizes: short ones are cleared sooner.
-pub fn rewrite(ws: &[u32], out: &mut [u32]) -> Answer
-    ensures numbers { numbers_of result ≡ rewrite_answer ws.now out.old }
-    ensures lent { out.new ≡ rewrite_lent ws.now out.old }
-    ensures demand { result.code ≡ 0 → DemandWords ws.now (take result.written out.new) }
+// What a call is for: the rewriting or the symbol report. Its answer for a module is that for `words`, which it may write in any order that counts as the
+// `Same`.
+pub trait Job {
+    ghost words: { List ℕ → List ℕ };
+
+    ghost Same: { List ℕ → List ℕ → Type 0 };
+
+    // The call on a module that validation accepts; notes for all of its words are lent.
+    fn run(ws: &[u32], notes: &mut [Note], out: &mut [u32]) -> Result<Written, Refusal>
+        requires { (refusal ws.now ≡ 0) × (length ws.now ≤ length notes.old) }
+        ensures numbers { numbers_of result ≡ answer_of ws.now (words ws.now) (length out.old) }
+        ensures lent { Lends Same ws.now (words ws.now) out.old out.new };
+
+    ghost in_order: { (xs : List ℕ) → Same xs xs };
+
+    ghost as_many: { (ws ys : List ℕ) → refusal ws ≡ 0 → Same ys (words ws) → length ys ≡ length (words ws) };
+
+    ghost fits: { (ws : List ℕ) → refusal ws ≡ 0 → length (words ws) ≤ 3 * length ws };
+}
+
+// The call on any words. A module that validation refuses takes no notes, any other takes notes of one of three sizes: short ones are cleared sooner.
+pub fn perform<J: Job>(ws: &[u32], out: &mut [u32]) -> Result<Written, Refusal>
+    ensures numbers { numbers_of result ≡ answer_of ws.now (J.words ws.now) (length out.old) }
+    ensures lent { Lends J.Same ws.now (J.words ws.now) out.old out.new }
 {
-    let v = validation::number(validation::validate(ws));
-    if v != 0 {
-        return Answer {
-            code: v,
-            written: 0,
-            fresh: 0,
-        };
-    }
+    validation::validate(ws)?;
     if ws.len() <= 64 {
-        let mut notes = [0u32; 64];
-        return rewrite_by(ws, &mut notes, out);
+        return with_notes::<J, 64>(ws, out);
     }
     if ws.len() <= 512 {
-        let mut notes = [0u32; 512];
-        return rewrite_by(ws, &mut notes, out);
+        return with_notes::<J, 512>(ws, out);
     }
-    let mut notes = [0u32; 4096];
-    rewrite_by(ws, &mut notes, out)
+    with_notes::<J, 4096>(ws, out)
 }
 
-// `rewrite` of a module that validation accepts, also for the C entry; notes for all of its words are lent.
-pub fn rewrite_by(ws: &[u32], notes: &mut [u32], out: &mut [u32]) -> Answer
-    requires { (refusal ws.now ≡ 0) × (length ws.now ≤ length notes.old) }
+// The call on a module of at most N words that validation accepts.
+fn with_notes<J: Job, const N: usize>(ws: &[u32], out: &mut [u32]) -> Result<Written, Refusal>
+    requires { (refusal ws.now ≡ 0) × (length ws.now ≤ N) × (N ≤ 4096) }
+    ensures numbers { numbers_of result ≡ answer_of ws.now (J.words ws.now) (length out.old) }
+    ensures lent { Lends J.Same ws.now (J.words ws.now) out.old out.new }
+{
+    let mut notes = [Note::default(); N];
+    J::run(ws, &mut notes, out)
+}
+
+// Rewrites the module in `ws`; the answer's words go to the start of `out`.
+pub fn rewrite(ws: &[u32], out: &mut [u32]) -> Result<Written, Refusal>
     ensures numbers { numbers_of result ≡ rewrite_answer ws.now out.old }
     ensures lent { out.new ≡ rewrite_lent ws.now out.old }
-    ensures demand { result.code ≡ 0 → DemandWords ws.now (take result.written out.new) }
+    ensures demand { IfOk result (λ w. DemandWords ws.now (take w.words out.new)) }
 {
-    let v = turned_back_by(ws, notes);
-    if v != 0 {
-        return Answer {
-            code: v,
-            written: 0,
-            fresh: 0,
-        };
-    }
-    count_table::find_counts(ws, notes, inspect::payload_at(ws, 1));
-    if !has_room(ws, notes, out.len()) {
-        return Answer {
-            code: 8,
-            written: 0,
-            fresh: 0,
-        };
-    }
-    let r = write_module(ws, notes, out);
-    Answer {
-        code: 0,
-        written: r.pos,
-        fresh: r.next - inspect::payload_at(ws, 1),
-    }
+    perform::<Rewriting>(ws, out)
 }
 
-// Refusals 1 to 7, or 0.
-pub fn turned_back(ws: &[u32]) -> u32
-    ensures { result ≡ turned_back ws.now }
-{
-    let v = validation::number(validation::validate(ws));
-    if v != 0 {
-        return v;
+// The job of rewriting.
+pub struct Rewriting;
+
+impl Job for Rewriting {
+    ghost words = { module_words };
+
+    ghost Same = { λ ys xs. ys ≡ xs };
+
+    fn run(ws: &[u32], notes: &mut [Note], out: &mut [u32]) -> Result<Written, Refusal> {
+        turned_back_by(ws, notes)?;
+        count_table::find_counts(ws, notes, inspect::payload_at(ws, 1));
+        if !has_room(ws, notes, out.len()) {
+            return Err(Refusal::OutputTooShort);
+        }
+        let r = write_module(ws, notes, out);
+        let fresh = r.state.next - inspect::payload_at(ws, 1);
+        Ok(Written {
+            words: r.pos,
+            fresh,
+        })
     }
-    let mut notes = [0u32; 4096];
+
+    ghost in_order = { λ xs. refl };
+
+    ghost as_many = { λ ws ys ok e. ap length e };
+
+    ghost fits = { module_length };
+}
+
+// Refusals 1 to 7.
+pub fn turned_back(ws: &[u32]) -> Result<(), Refusal>
+    ensures { code_of result ≡ turned_back ws.now }
+{
+    validation::validate(ws)?;
+    let mut notes = [Note::default(); 4096];
     turned_back_by(ws, &mut notes)
 }
 
-// `turned_back` of a module that validation accepts, for `rewrite_by` and for `symbol_report`; notes for all of its words are lent, and with 0 they have
+// `turned_back` of a module that validation accepts, for `Rewriting` and for `symbol_report`; notes for all of its words are lent, and with `Ok` they have
 // the ends and the marks.
-pub fn turned_back_by(ws: &[u32], notes: &mut [u32]) -> u32
+pub fn turned_back_by(ws: &[u32], notes: &mut [Note]) -> Result<(), Refusal>
     requires { (refusal ws.now ≡ 0) × (length ws.now ≤ length notes.old) }
-    ensures { (result ≡ turned_back ws.now) × (result ≡ 0 → Planned ws.now notes.new) × (length notes.new ≡ length notes.old) }
+    ensures { (code_of result ≡ turned_back ws.now) × OnOk result (Planned ws.now notes.new) × (length notes.new ≡ length notes.old) }
 {
     records::find_ends(ws, notes);
     if mark_table::find_marks(ws, notes) {
-        return 7;
+        return Err(Refusal::DecoratedLaterConstructor);
     }
-    0
+    Ok(())
 }
 
 // Whether `room` words are enough for what the module becomes. Three times its words always are (`module_length`); else they are counted.
-fn has_room(ws: &[u32], notes: &[u32], room: usize) -> bool
+fn has_room(ws: &[u32], notes: &[Note], room: usize) -> bool
     requires { (refusal ws.now ≡ 0) × Planned ws.now notes.now × Annotated ws.now notes.now 0 }
     ensures { result ≡ leb (length (module_words ws.now)) room }
 {
@@ -117,25 +142,10 @@ fn has_room(ws: &[u32], notes: &[u32], room: usize) -> bool
 }
 
 // What the module becomes, at the start of the output, cut where that ends.
-fn write_module(ws: &[u32], notes: &[u32], out: &mut [u32]) -> transform::Went
+fn write_module(ws: &[u32], notes: &[Note], out: &mut [u32]) -> transform::Walk
     requires { (refusal ws.now ≡ 0) × Planned ws.now notes.now × Annotated ws.now notes.now 0 }
     ensures { Writes ws.now out.old out.new result }
 {
     let s = inspect::payload_at(ws, 1);
-    transform::record(
-        ws,
-        notes,
-        0,
-        Scope {
-            live: false,
-            id: NONE,
-        },
-        Count {
-            next: s,
-            default: NONE,
-        },
-        class_stack::empty(),
-        out,
-        0,
-    )
+    transform::program(ws, notes, s, class_stack::empty(), out)
 }

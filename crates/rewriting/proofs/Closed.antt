@@ -3,7 +3,8 @@ use Rattle.std.specs.Prelude.{◌≡◌, Bool, cond, not}
 use Rattle.std.proofs.Math.Path.{refl, ap, subst, subst₂}
 use Rattle.std.proofs.Common.{sym, ◌∙◌}
 use Rattle.std.proofs.Math.Bool.{true, false}
-use Rattle.std.proofs.Math.Option.{Option, none}
+use Rattle.std.specs.declared.option.Option.{Option}
+use Rattle.std.specs.declared.option.Option.TheVariants.{None as none}
 use mathlib.Core.List.{List, [], ◌∷◌, append-nil}
 use Prim.Native.Nat.{ℕ, ◌+◌, ◌*◌, ◌<◌, ◌≤◌}
 use native.Mathlib.Omega.{arith}
@@ -19,7 +20,9 @@ use Rattle.grammar.specs.WellFormed.{Allowed, Fits, Each}
 use Rattle.grammar.proofs.Rows.{sole_kind}
 use Rattle.grammar.proofs.Accepted.{module_slots}
 use Rattle.rewriting.specs.Parts.{Role, list, statement, expression, method, constructor, plain, role_of, tree, recount, is_live, class_kids}
-use Rattle.rewriting.specs.Visit.{Around, State, Result, live_class, dead_class, class_if, kept, whole_module, own, since, work, inside, entering, join, ◌then◌, visit, outermost}
+use Rattle.rewriting.specs.Visit.{Result, live_class, dead_class, class_if, kept, whole_module, own, since, work, inside, entering, join, ◌then◌, visit, outermost}
+use Rattle.rewriting.specs.declared.Around.{Around}
+use Rattle.rewriting.specs.declared.State.{State}
 use Rattle.rewriting.proofs.Roles.{Plain, role_case, is_plain, plain_role, statement_role_lem, module_role_lem}
 use Rattle.rewriting.proofs.Fitting.{EachSlot, Above, slots_replicate, has_statements, deep_below, category_of}
 use Rattle.rewriting.proofs.Kept.{keeps, Like, like, plain_statements}

@@ -3,7 +3,8 @@ use Rattle.std.specs.Prelude.{◌≡◌, cond, ◌&&◌, ◌||◌, ltb}
 use Rattle.std.proofs.Math.Path.{refl, ap, subst}
 use Rattle.std.proofs.Common.{sym, ◌∙◌, arith}
 use Rattle.std.proofs.Math.Bool.{Bool, true, false}
-use Rattle.std.proofs.Math.Option.{Option, none, some}
+use Rattle.std.specs.declared.option.Option.{Option}
+use Rattle.std.specs.declared.option.Option.TheVariants.{None as none, Some as some}
 use mathlib.Core.List.{List, [], ◌∷◌, append-nil}
 use Prim.Native.Nat.{ℕ, zero, suc, ◌/◌, ◌%◌, ◌<◌}
 use Rattle.std.proofs.Math.Dec.{eqb}
@@ -16,7 +17,8 @@ use Rattle.grammar.specs.Grammar.{Slot, slot, expression, element, statement, id
 use Rattle.grammar.specs.WellFormed.{Allowed, Fits}
 use Rattle.grammar.proofs.Rows.{sole_kind}
 use Rattle.rewriting.specs.Parts.{tree, recount, kids_of, decorators, undecorate, parameters_of, of_parameters, is_constructor, bare_method, elements_of, with_elements, symbol_if, id_of, has_private_in, has_static, first_constructor, bare_first, is_decorated, is_empty}
-use Rattle.rewriting.specs.Visit.{State, is_ref, to_alias, renamed, Symbols, symbols_of, aliased, array, assignment, block_alias, let_alias, alias_block, call_block, queued, export, first_payload, with_id, decorated_statement, decorated₁, decorated₂, name_class, extend_body, undecorated_if, live_class_if, live_class}
+use Rattle.rewriting.specs.Visit.{is_ref, to_alias, renamed, Symbols, symbols_of, aliased, array, assignment, block_alias, let_alias, alias_block, call_block, queued, export, first_payload, with_id, decorated_statement, decorated₁, decorated₂, name_class, extend_body, undecorated_if, live_class_if, live_class}
+use Rattle.rewriting.specs.declared.State.{State}
 use Rattle.rewriting.proofs.Roles.{never}
 use Rattle.rewriting.proofs.Fitting.{behind}
 use Rattle.rewriting.proofs.Kept.{Like}

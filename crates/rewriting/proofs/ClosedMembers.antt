@@ -3,7 +3,7 @@ use Rattle.std.specs.Prelude.{◌≡◌, Bool, true, cond, ◌&&◌, ◌||◌, L
 use Rattle.std.proofs.Math.Path.{refl}
 use Rattle.std.proofs.Common.{sym, ap, subst, ◌∙◌, append-nil, arith, eqb-true}
 use Rattle.std.proofs.Math.Bool.{false}
-use Rattle.std.proofs.Math.Option.{Option}
+use Rattle.std.specs.declared.option.Option.{Option}
 use Rattle.words.specs.Table.{lookup}
 use Rattle.words.specs.Word.{bit0, bit1}
 use Rattle.records.specs.Forest.{end, node, append_f, count_f, take_f, drop_f}
@@ -11,7 +11,9 @@ use Rattle.records.specs.Label.{Label, Trees, ◌∶◌, repay, is, bit}
 use Rattle.grammar.specs.Grammar.{Slot, slot, expression, row, table, row_of, holds, expressions, allowed, slots, slots_below}
 use Rattle.grammar.specs.WellFormed.{Allowed, Fits}
 use Rattle.rewriting.specs.Parts.{tree, kids_of, change_kids, decorators, undecorate, parameters_of, indexed, of_parameters, bare_parameters, method, field, decorators_of, bare_method, bare_field, is_decorated_member, is_plain_key, first_is_plain, has_plain_key}
-use Rattle.rewriting.specs.Visit.{Around, State, Result, Taken, Named, class_symbol, called₁, called₂, member_if, member, own, plain_name, name_if, name_of, prefix, array, member_call, with_key}
+use Rattle.rewriting.specs.Visit.{Result, Taken, Named, class_symbol, called₁, called₂, member_if, member, own, plain_name, name_if, name_of, prefix, array, member_call, with_key}
+use Rattle.rewriting.specs.declared.Around.{Around}
+use Rattle.rewriting.specs.declared.State.{State}
 use Rattle.rewriting.proofs.Roles.{never}
 use Rattle.rewriting.proofs.Fitting.{category_of, parameters_are}
 use Rattle.rewriting.proofs.Kept.{Like}

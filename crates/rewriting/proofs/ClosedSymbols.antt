@@ -3,7 +3,8 @@ use Rattle.std.specs.Prelude.{◌≡◌, cond, ◌&&◌, ◌||◌, List, [], ◌
 use Rattle.std.proofs.Math.Path.{refl}
 use Rattle.std.proofs.Common.{sym, ap, subst, ◌∙◌, eqb-true}
 use Rattle.std.proofs.Math.Bool.{Bool, true, false}
-use Rattle.std.proofs.Math.Option.{Option, none, some}
+use Rattle.std.specs.declared.option.Option.{Option}
+use Rattle.std.specs.declared.option.Option.TheVariants.{None as none, Some as some}
 use Prim.Native.Nat.{ℕ, zero, suc, ◌+◌, ◌*◌, ◌<◌, ◌≤◌, max}
 use native.Mathlib.Omega.{arith}
 use Rattle.words.specs.Table.{lookup}
@@ -14,7 +15,9 @@ use Rattle.grammar.specs.Grammar.{Slot, slot, row, table, row_of, slots, slots_b
 use Rattle.grammar.specs.WellFormed.{Fits, Each}
 use Rattle.grammar.proofs.Rows.{sole_kind}
 use Rattle.rewriting.specs.Parts.{Role, module', list, statement, expression, method, constructor, plain, field, role_of, tree, recount, kids_of, change_kids, decorators, undecorate, parameters_of, indexed, of_parameters, bare_parameters, decorators_of, bare_method, bare_field, is_constructor, is_decorated_member, has_plain_key, elements_of, with_elements, symbol_if, id_of, has_private_in, has_static, first_constructor, bare_first, is_decorated, is_empty, is_live, class_kids}
-use Rattle.rewriting.specs.Visit.{Around, State, Result, Taken, Named, class_symbol, plain_name, name_if, name_of, prefix, array, member_call, with_key, called₁, called₂, member_if, member, is_ref, to_alias, renamed, Symbols, symbols_of, named_symbols, aliased, assignment, block_alias, let_alias, alias_block, call_block, queued, export, first_payload, with_id, decorated_statement, decorated₁, decorated₂, name_class, extend_body, undecorated_if, live_class_if, live_class, dead_class, class_if, kept, own, since, work, inside, entering, join, ◌then◌, visit, outermost}
+use Rattle.rewriting.specs.Visit.{Result, Taken, Named, class_symbol, plain_name, name_if, name_of, prefix, array, member_call, with_key, called₁, called₂, member_if, member, is_ref, to_alias, renamed, Symbols, symbols_of, named_symbols, aliased, assignment, block_alias, let_alias, alias_block, call_block, queued, export, first_payload, with_id, decorated_statement, decorated₁, decorated₂, name_class, extend_body, undecorated_if, live_class_if, live_class, dead_class, class_if, kept, own, since, work, inside, entering, join, ◌then◌, visit, outermost}
+use Rattle.rewriting.specs.declared.Around.{Around}
+use Rattle.rewriting.specs.declared.State.{State}
 use Rattle.rewriting.proofs.Roles.{never, role_case, is_plain, plain_role}
 use Rattle.rewriting.proofs.Facts.{entering_next}
 use Rattle.rewriting.proofs.Fitting.{EachSlot, Above, inner_below, category_of}

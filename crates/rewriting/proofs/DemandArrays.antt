@@ -4,7 +4,8 @@ use Rattle.std.proofs.Math.Path.{refl, ap, sym}
 use Rattle.std.proofs.Common.{◌∙◌, true≢false, append-nil, append_assoc}
 use Rattle.std.proofs.Math.Bool.{true, false}
 use Rattle.std.proofs.lemmas.Bool.{false≢true}
-use Rattle.std.proofs.Math.Option.{Option, none, some}
+use Rattle.std.specs.declared.option.Option.{Option}
+use Rattle.std.specs.declared.option.Option.TheVariants.{None as none, Some as some}
 use Rattle.records.specs.Forest.{end, node, append_f, map_f}
 use Rattle.records.specs.Label.{Label, Origin, made, read, Trees, ◌∶◌, is}
 use Rattle.rewriting.specs.Parts.{tree, is_empty, role_of, decorators, decorators_of, is_member, is_decorated_member, elements_of, first_constructor, is_decorated_class}

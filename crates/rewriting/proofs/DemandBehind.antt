@@ -4,13 +4,16 @@ use Rattle.std.proofs.Math.Path.{refl, ap, sym, subst}
 use Rattle.std.proofs.Common.{◌∙◌, true≢false, append-nil}
 use Rattle.std.proofs.Math.Bool.{Bool, true, false, not}
 use Rattle.std.proofs.lemmas.Bool.{false≢true}
-use Rattle.std.proofs.Math.Option.{Option, none, some}
+use Rattle.std.specs.declared.option.Option.{Option}
+use Rattle.std.specs.declared.option.Option.TheVariants.{None as none, Some as some}
 use Prim.Native.Nat.{ℕ, ◌≤◌}
 use native.Mathlib.Omega.{arith}
 use Rattle.records.specs.Forest.{end, node, take_f, drop_f, append_f, any_f, append_f_end}
 use Rattle.records.specs.Label.{Label, Origin, made, read, Trees, ◌∶◌, repay, become, is}
 use Rattle.rewriting.specs.Parts.{tree, is_empty, recount, kids_of, Role, module', list, statement, expression, method, constructor, plain, field, role_of, decorators, undecorate, of_parameters, parameters_of, decorators_of, bare_method, bare_field, is_constructor, is_member, is_decorated_member, elements_of, with_elements, id_of, has_private_in, has_static, constructor_decorated, first_constructor, bare_first, is_decorated, is_decorated_class, is_live, class_kids}
-use Rattle.rewriting.specs.Visit.{Around, State, Result, Default, Alias, kept, is_ref, renamed, Symbols, named_symbols, symbols_of, aliased, assignment, block_alias, let_alias, alias_block, call_block, queued, export, first_payload, with_id, decorated_statement, decorated₁, decorated₂, name_class, extend_body, undecorated_if, live_class_if, live_class, dead_class, class_if, whole_module, own, member, signed_by, work, since, inside, entering, visit, visit_one, visit_end}
+use Rattle.rewriting.specs.Visit.{Result, Default, Alias, kept, is_ref, renamed, Symbols, named_symbols, symbols_of, aliased, assignment, block_alias, let_alias, alias_block, call_block, queued, export, first_payload, with_id, decorated_statement, decorated₁, decorated₂, name_class, extend_body, undecorated_if, live_class_if, live_class, dead_class, class_if, whole_module, own, member, signed_by, work, since, inside, entering, visit, visit_one, visit_end}
+use Rattle.rewriting.specs.declared.Around.{Around}
+use Rattle.rewriting.specs.declared.State.{State}
 use Rattle.rewriting.specs.Demand.{Has, first, below, behind, same, count_at, taken, AsVisited, Calls, Stay, constructors, Names, Behind, ClassGives, Gives, Listed}
 use Rattle.rewriting.proofs.DemandShapes.{Read, member_role_lem, statement_role, statement_role_lem, statement_kind, ClassOnly, Settled, Shape, Shaped}
 use Rattle.rewriting.proofs.DemandShaped.{empty_end}

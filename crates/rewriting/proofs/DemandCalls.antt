@@ -4,13 +4,16 @@ use Rattle.std.proofs.Math.Path.{refl, ap, subst}
 use Rattle.std.proofs.Common.{sym, ◌∙◌, arith}
 use Rattle.std.proofs.Math.Bool.{Bool, true, false}
 use Rattle.std.proofs.lemmas.Bool.{false≢true}
-use Rattle.std.proofs.Math.Option.{Option, none, some}
+use Rattle.std.specs.declared.option.Option.{Option}
+use Rattle.std.specs.declared.option.Option.TheVariants.{None as none, Some as some}
 use Prim.Native.Nat.{ℕ, ◌≤◌}
 use Rattle.words.specs.Word.{bit0}
 use Rattle.records.specs.Forest.{end, node, take_f, drop_f, append_f}
 use Rattle.records.specs.Label.{Label, Origin, made, read, Trees, ◌∶◌, repay, is, bit}
 use Rattle.rewriting.specs.Parts.{tree, change_kids, Role, module', list, statement, expression, method, constructor, plain, field, role_of, decorators, undecorate, bare_parameters, decorators_of, bare_method, bare_field, is_member, is_decorated_member, is_plain_key, first_is_plain, has_plain_key}
-use Rattle.rewriting.specs.Visit.{Around, State, Result, Taken, Named, Key, class_symbol, name_if, name_of, prefix, member_call, with_key, called₁, called₂, member_if, member, renamed, kept, own, work, since, signed_by, inside, entering, visit, visit_one, visit_end}
+use Rattle.rewriting.specs.Visit.{Result, Taken, Named, Key, class_symbol, name_if, name_of, prefix, member_call, with_key, called₁, called₂, member_if, member, renamed, kept, own, work, since, signed_by, inside, entering, visit, visit_one, visit_end}
+use Rattle.rewriting.specs.declared.Around.{Around}
+use Rattle.rewriting.specs.declared.State.{State}
 use Rattle.rewriting.specs.Demand.{Has, count_at, taken, same, AsVisited, NameIf, Name, CallIf, Calls}
 use Rattle.rewriting.proofs.DemandShapes.{WasRead, Read, member_role, member_role_lem, descriptor_of, descriptor_role, element_role, role_28, NoMembers, MethodKids, FieldKids, Elements, Shape, Shaped}
 use Rattle.rewriting.proofs.DemandVisits.{one_each, one_as, one_role_lem, visit_here, visit_calls, visit_after, visit_first, plain_here, Visited, one_visited, method_visited, method_each, field_each, NoCalls, no_members_visit}

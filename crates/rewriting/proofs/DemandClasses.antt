@@ -9,7 +9,9 @@ use Rattle.words.specs.Word.{bit1}
 use Rattle.records.specs.Forest.{end, node, append_f, append_f_end}
 use Rattle.records.specs.Label.{Label, Trees, ◌∶◌, repay, is, bit}
 use Rattle.rewriting.specs.Parts.{tree, recount, kids_of, Role, module', list, statement, expression, method, constructor, plain, field, role_of, decorators, of_parameters, parameters_of, decorators_of, bare_method, bare_field, is_constructor, is_decorated_member, elements_of, first_constructor}
-use Rattle.rewriting.specs.Visit.{Around, State, Result, kept, member_if, member, called₁, called₂, own, work, since, inside, entering, visit, visit_one, visit_end}
+use Rattle.rewriting.specs.Visit.{Result, kept, member_if, member, called₁, called₂, own, work, since, inside, entering, visit, visit_one, visit_end}
+use Rattle.rewriting.specs.declared.Around.{Around}
+use Rattle.rewriting.specs.declared.State.{State}
 use Rattle.rewriting.specs.Demand.{count_at, AsVisited}
 use Rattle.rewriting.proofs.DemandShapes.{Read, and_left, NoLists, no_plain, member_role, method_role, method_role_lem, role_constructor, role_26, role_28, role_29, role_37, element_role, NoMembers, Params, MethodKids, Elements, BodyLast, ClassKids, Shape, Shaped}
 use Rattle.rewriting.proofs.DemandVisits.{one_as, one_role_lem, visit_here, visit_calls, visit_after, visit_first, plain_here, plain_calls, plain_after, Visited, one_visited, each_end, head_each, parameters_read, method_visited, method_head, parameters_each, no_members_visit}

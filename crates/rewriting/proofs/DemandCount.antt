@@ -4,7 +4,8 @@ use Rattle.std.proofs.Math.Path.{refl, ap}
 use Rattle.std.proofs.Common.{sym, ◌∙◌, true≢false}
 use Rattle.std.proofs.Math.Bool.{Bool, true, false, cond, not}
 use Rattle.std.proofs.lemmas.Bool.{false≢true}
-use Rattle.std.proofs.Math.Option.{Option, none, some}
+use Rattle.std.specs.declared.option.Option.{Option}
+use Rattle.std.specs.declared.option.Option.TheVariants.{None as none, Some as some}
 use mathlib.Core.List.{List, []}
 use Prim.Native.Nat.{ℕ, zero, suc, ◌+◌, ◌≤◌}
 use native.Mathlib.Omega.{arith}
@@ -12,7 +13,9 @@ use Rattle.words.specs.Word.{bit0}
 use Rattle.records.specs.Forest.{end, node, take_f, drop_f, append_f, map_f, count_f, drop_f_suc}
 use Rattle.records.specs.Label.{Label, Origin, made, read, Trees, ◌∶◌, repay, become, is, bit}
 use Rattle.rewriting.specs.Parts.{tree, is_empty, recount, kids_of, change_kids, Role, module', list, statement, expression, method, constructor, plain, field, role_of, decorators, undecorate, indexed, of_parameters, parameters_of, bare_parameters, bare_method, bare_field, decorators_of, is_constructor, is_decorated_member, has_plain_key, elements_of, with_elements, id_of, has_private_in, has_static, first_constructor, bare_first, is_decorated, is_live, class_kids}
-use Rattle.rewriting.specs.Visit.{Around, State, Result, Taken, Named, Symbols, kept, own, work, since, inside, entering, visit, visit_one, visit_end, member, member_if, called₁, called₂, class_symbol, name_of, name_if, plain_name, prefix, array, member_call, with_key, to_alias, renamed, symbols_of, aliased, assignment, block_alias, let_alias, alias_block, call_block, queued, export, first_payload, with_id, decorated_statement, decorated₁, decorated₂, name_class, extend_body, undecorated_if, live_class_if, live_class, dead_class, class_if, whole_module}
+use Rattle.rewriting.specs.Visit.{Result, Taken, Named, Symbols, kept, own, work, since, inside, entering, visit, visit_one, visit_end, member, member_if, called₁, called₂, class_symbol, name_of, name_if, plain_name, prefix, array, member_call, with_key, to_alias, renamed, symbols_of, aliased, assignment, block_alias, let_alias, alias_block, call_block, queued, export, first_payload, with_id, decorated_statement, decorated₁, decorated₂, name_class, extend_body, undecorated_if, live_class_if, live_class, dead_class, class_if, whole_module}
+use Rattle.rewriting.specs.declared.Around.{Around}
+use Rattle.rewriting.specs.declared.State.{State}
 use Rattle.rewriting.specs.Demand.{same, is_at, count_at, dropped_at, dropped, Below, AsVisited}
 use Rattle.rewriting.proofs.DemandShapes.{is_other, member_role, member_role_lem, statement_role, statement_role_lem, descriptor_of, descriptor_made, ClassOnly, Shape, Shaped}
 use Rattle.rewriting.proofs.DemandVisits.{one_as, one_role_lem, visit_here, visit_calls, method_each, field_each, class_if_without_calls, append_ends}

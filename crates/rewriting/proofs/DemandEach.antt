@@ -2,13 +2,16 @@
 use Rattle.std.specs.Prelude.{◌≡◌, cond, ◌||◌, eqb}
 use Rattle.std.proofs.Math.Path.{refl}
 use Rattle.std.proofs.Math.Bool.{Bool, true, false}
-use Rattle.std.proofs.Math.Option.{Option, none, some}
+use Rattle.std.specs.declared.option.Option.{Option}
+use Rattle.std.specs.declared.option.Option.TheVariants.{None as none, Some as some}
 use Prim.Native.Nat.{ℕ, zero, suc}
 use Rattle.words.specs.Word.{bit0}
 use Rattle.records.specs.Forest.{end, node, take_f, drop_f, append_f, map_f}
 use Rattle.records.specs.Label.{Label, made, Trees, ◌∶◌, repay, become, is, bit}
 use Rattle.rewriting.specs.Parts.{tree, recount, kids_of, change_kids, constructor, method, decorators, undecorate, indexed, of_parameters, parameters_of, bare_parameters, bare_method, bare_field, decorators_of, is_constructor, has_plain_key, elements_of, with_elements, id_of, has_private_in, has_static, first_constructor, bare_first}
-use Rattle.rewriting.specs.Visit.{Around, State, Result, Taken, class_symbol, name_if, name_of, plain_name, prefix, array, member_call, with_key, called₁, called₂, member_if, to_alias, Symbols, aliased, assignment, block_alias, let_alias, alias_block, call_block, queued, export, first_payload, with_id, decorated_statement, decorated₂, name_class, extend_body, undecorated_if}
+use Rattle.rewriting.specs.Visit.{Result, Taken, class_symbol, name_if, name_of, plain_name, prefix, array, member_call, with_key, called₁, called₂, member_if, to_alias, Symbols, aliased, assignment, block_alias, let_alias, alias_block, call_block, queued, export, first_payload, with_id, decorated_statement, decorated₂, name_class, extend_body, undecorated_if}
+use Rattle.rewriting.specs.declared.Around.{Around}
+use Rattle.rewriting.specs.declared.State.{State}
 use Rattle.rewriting.specs.Demand.{Has, first, below, behind, is_list}
 use Rattle.rewriting.proofs.DemandShapes.{NoList, NoLists, no_list, list_role, is_kind, role_constructor}
 use Rattle.rewriting.proofs.DemandBehind.{with_default}

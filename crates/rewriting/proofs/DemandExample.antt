@@ -3,7 +3,8 @@ use Rattle.std.specs.Prelude.{◌≡◌, Bool, false, cond, List, [], ◌∷◌,
 use Rattle.std.proofs.Math.Path.{refl, ap, sym}
 use Rattle.std.proofs.Common.{◌∙◌, subst, true≢false, arith, eq-eqb}
 use Rattle.std.proofs.Math.Bool.{true, or-true}
-use Rattle.std.proofs.Math.Option.{Option, none, some}
+use Rattle.std.specs.declared.option.Option.{Option}
+use Rattle.std.specs.declared.option.Option.TheVariants.{None as none, Some as some}
 use Rattle.std.proofs.Math.Dec.{eqb}
 use Rattle.records.specs.Forest.{end, node, take_f, drop_f, append_f, count_f, any_f, append_f_end, append_f_assoc}
 use Rattle.records.specs.Label.{Label, made, read, Trees, ◌∶◌, is, words}

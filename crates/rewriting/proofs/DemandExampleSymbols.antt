@@ -1,7 +1,8 @@
 -- Demand 3 of a class that has an alias and of a nameless one, and wrong rewritings of them that the statement rules out. Assumes nothing.
 use Rattle.std.specs.Prelude.{◌≡◌, refl, false, cond, List, [], ◌∷◌, ℕ, ◌≤◌}
 use Rattle.std.proofs.Common.{ap, sym, ◌∙◌, subst, arith}
-use Rattle.std.proofs.Math.Option.{Option, none, some}
+use Rattle.std.specs.declared.option.Option.{Option}
+use Rattle.std.specs.declared.option.Option.TheVariants.{None as none, Some as some}
 use Rattle.records.specs.Forest.{end, node, drop_f, append_f, append_f_end}
 use Rattle.records.specs.Label.{Label, read, Trees, ◌∶◌, is, words}
 use Rattle.rewriting.specs.Parts.{tree}

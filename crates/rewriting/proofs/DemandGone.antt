@@ -4,13 +4,16 @@ use Rattle.std.proofs.Math.Path.{refl, ap, subst}
 use Rattle.std.proofs.Common.{sym, ◌∙◌, true≢false}
 use Rattle.std.proofs.Math.Bool.{true, false, cond}
 use Rattle.std.proofs.lemmas.Bool.{false≢true}
-use Rattle.std.proofs.Math.Option.{Option, none}
+use Rattle.std.specs.declared.option.Option.{Option}
+use Rattle.std.specs.declared.option.Option.TheVariants.{None as none}
 use Prim.Native.Nat.{ℕ, zero, suc, ◌+◌, ◌≤◌}
 use native.Mathlib.Omega.{arith}
 use Rattle.records.specs.Forest.{end, node, append_f}
 use Rattle.records.specs.Label.{Label, Trees, ◌∶◌}
 use Rattle.rewriting.specs.Parts.{tree, is_empty, Role, module', list, statement, expression, method, constructor, plain, field, role_of, decorators, undecorate, bare_method, bare_field, decorators_of, is_constructor, is_decorated_member, elements_of, with_elements, id_of, has_private_in, constructor_decorated, first_constructor, bare_first, is_decorated, is_live, class_kids}
-use Rattle.rewriting.specs.Visit.{Around, State, Result, Symbols, kept, own, work, since, inside, entering, visit, visit_one, visit_end, member, symbols_of, renamed, live_class_if, live_class, class_if}
+use Rattle.rewriting.specs.Visit.{Result, Symbols, kept, own, work, since, inside, entering, visit, visit_one, visit_end, member, symbols_of, renamed, live_class_if, live_class, class_if}
+use Rattle.rewriting.specs.declared.Around.{Around}
+use Rattle.rewriting.specs.declared.State.{State}
 use Rattle.rewriting.specs.Demand.{is_at, count_at, dropped_at, dropped}
 use Rattle.rewriting.proofs.DemandShapes.{and_left, and_right, role_constructor, descriptor_of, Head, Elements, ClassKids, ClassOnly, Shape, Shaped}
 use Rattle.rewriting.proofs.DemandVisits.{one_as, one_role_lem, visit_here, visit_calls, no_members_visit}

@@ -3,12 +3,13 @@ use Rattle.std.specs.Prelude.{◌≡◌, refl, Bool, false, cond, List, [], ◌�
 use Rattle.std.proofs.Common.{ap, sym, ◌∙◌, arith, eqb-true}
 use Rattle.std.proofs.Math.Path.{subst}
 use Rattle.std.proofs.Math.Bool.{true}
-use Rattle.std.proofs.Math.Option.{none}
+use Rattle.std.specs.declared.option.Option.TheVariants.{None as none}
 use Rattle.std.proofs.lemmas.Bool.{eqb-false}
 use Rattle.records.specs.Forest.{end, node, flat, drop_f}
 use Rattle.records.specs.Prefix.{build, flat_build}
 use Rattle.records.specs.Label.{Label, read, Trees, read_at, read_from, is, arity}
-use Rattle.rewriting.specs.Visit.{State, visit, outermost, module_of, visit_words}
+use Rattle.rewriting.specs.Visit.{visit, outermost, module_of, visit_words}
+use Rattle.rewriting.specs.declared.State.{State}
 use Rattle.rewriting.specs.Demand.{Has, first, below, behind, same, is_at, count_at, dropped, is_list, statements_of, Found, Demand}
 use Rattle.rewriting.specs.DemandGrammar.{Accepted}
 use Rattle.rewriting.proofs.DemandShapes.{Read, Shaped}

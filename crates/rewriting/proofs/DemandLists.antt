@@ -3,14 +3,17 @@ use Rattle.std.specs.Prelude.{◌≡◌, Bool, cond, ◌&&◌, ℕ, ◌+◌, ◌
 use Rattle.std.proofs.Math.Path.{refl, ap, sym, subst}
 use Rattle.std.proofs.Common.{◌∙◌, true≢false}
 use Rattle.std.proofs.Math.Bool.{true, false, and-false}
-use Rattle.std.proofs.Math.Option.{Option, none, some}
+use Rattle.std.specs.declared.option.Option.{Option}
+use Rattle.std.specs.declared.option.Option.TheVariants.{None as none, Some as some}
 use mathlib.Core.List.{List, [], ◌∷◌, ◌++◌, append-nil}
 use native.Mathlib.Omega.{arith}
 use Rattle.std.proofs.Math.Dec.{eqb}
 use Rattle.records.specs.Forest.{end, node, drop_f, any_f, map_f, drop_f_map}
 use Rattle.records.specs.Label.{Label, Origin, made, read, Trees, ◌∶◌, repay, is}
 use Rattle.rewriting.specs.Parts.{tree, is_empty, recount, kids_of, Role, module', list, statement, expression, method, constructor, plain, field, role_of, decorators, undecorate, bare_method, bare_field, parameters_of, decorators_of, is_decorated_member, elements_of, with_elements, id_of, is_decorated, is_live, class_kids}
-use Rattle.rewriting.specs.Visit.{Around, State, Result, Alias, Symbols, kept, own, work, since, inside, entering, visit, visit_one, visit_end, member, is_ref, to_alias, renamed, named_symbols, symbols_of, first_payload, with_id, decorated₁, decorated₂, undecorated_if, live_class_if, live_class, dead_class, class_if, whole_module}
+use Rattle.rewriting.specs.Visit.{Result, Alias, Symbols, kept, own, work, since, inside, entering, visit, visit_one, visit_end, member, is_ref, to_alias, renamed, named_symbols, symbols_of, first_payload, with_id, decorated₁, decorated₂, undecorated_if, live_class_if, live_class, dead_class, class_if, whole_module}
+use Rattle.rewriting.specs.declared.Around.{Around}
+use Rattle.rewriting.specs.declared.State.{State}
 use Rattle.rewriting.specs.Demand.{Has, first, below, behind, is_at, count_at, taken, searched, both, reaching, through_all, is_list, statements_of}
 use Rattle.rewriting.proofs.DemandShapes.{Read, NoList, NoLists, list_same, no_list, no_plain, list_role, module_role, module_role_lem, statement_role, statement_role_lem, descriptor_of, descriptor_made, role_26, is_other, ClassOnly, ModuleKids, Shape, Shaped}
 use Rattle.rewriting.proofs.DemandVisits.{one_as, one_role_lem, visit_here, visit_calls, visit_first, Visited, one_visited, class_if_without_calls}

@@ -9,7 +9,9 @@ use Rattle.std.proofs.Math.Dec.{eqb}
 use Rattle.records.specs.Forest.{end, node}
 use Rattle.records.specs.Label.{Label, Origin, made, read, Trees, ◌∶◌, repay, is}
 use Rattle.rewriting.specs.Parts.{tree, recount, Role, module', list, statement, expression, method, constructor, plain, field, role_of, decorators, undecorate, bare_parameters, bare_method, bare_field, decorators_of, is_member, is_decorated_member, elements_of, with_elements, class_kids}
-use Rattle.rewriting.specs.Visit.{Around, State, Result, kept, own, work, since, inside, entering, visit, visit_one, visit_end, member}
+use Rattle.rewriting.specs.Visit.{Result, kept, own, work, since, inside, entering, visit, visit_one, visit_end, member}
+use Rattle.rewriting.specs.declared.Around.{Around}
+use Rattle.rewriting.specs.declared.State.{State}
 use Rattle.rewriting.specs.Demand.{Has, first, below, behind, same, is_at, count_at, searched}
 use Rattle.rewriting.proofs.DemandShapes.{member_role, member_role_lem, method_role, method_role_lem, role_28, role_29, role_37, descriptor_of, element_role, Elements, BodyLast, Head, Params, MethodKids, FieldKids, ClassKids, Shape, Shaped}
 use Rattle.rewriting.proofs.DemandVisits.{one_as, one_role_lem, visit_here, visit_calls, visit_first, plain_here, Visited, one_visited, method_visited, method_each, field_each, field_head, no_members_visit}

@@ -3,13 +3,16 @@ use Rattle.std.specs.Prelude.{◌≡◌, Bool, cond, ◌&&◌, ℕ, ◌+◌, ◌
 use Rattle.std.proofs.Math.Path.{refl, ap, sym}
 use Rattle.std.proofs.Common.{◌∙◌, arith, eq-eqb}
 use Rattle.std.proofs.Math.Bool.{true, false, and-false}
-use Rattle.std.proofs.Math.Option.{Option, none, some}
+use Rattle.std.specs.declared.option.Option.{Option}
+use Rattle.std.specs.declared.option.Option.TheVariants.{None as none, Some as some}
 use mathlib.Core.List.{List, [], ◌∷◌, ◌++◌, append-nil, map}
 use Rattle.std.proofs.Math.Dec.{eqb}
 use Rattle.records.specs.Forest.{end, node, take_f, drop_f, any_f}
 use Rattle.records.specs.Label.{Label, Origin, made, read, Trees, ◌∶◌, is}
 use Rattle.rewriting.specs.Parts.{Role, module', list, statement, expression, method, constructor, plain, field, role_of, has_plain_key, is_decorated_member, id_of, is_live, class_kids}
-use Rattle.rewriting.specs.Visit.{Around, State, Result, Taken, Default, Inner, Alias, sign, signed, kept, class_symbol, name_if, name_of, called₁, called₂, member, member_if, named_symbols, symbols_of, is_ref, decorated₁, decorated₂, live_class_if, live_class, dead_class, class_if, own, signed_by, work, since, inside, entering, join, ◌then◌, visit, visit_one, visit_node, visit_end}
+use Rattle.rewriting.specs.Visit.{Result, Taken, Default, Inner, Alias, sign, signed, kept, class_symbol, name_if, name_of, called₁, called₂, member, member_if, named_symbols, symbols_of, is_ref, decorated₁, decorated₂, live_class_if, live_class, dead_class, class_if, own, signed_by, work, since, inside, entering, join, ◌then◌, visit, visit_one, visit_node, visit_end}
+use Rattle.rewriting.specs.declared.Around.{Around}
+use Rattle.rewriting.specs.declared.State.{State}
 use Rattle.rewriting.specs.Demand.{same, is_at, count_at, taken}
 use Rattle.rewriting.proofs.DemandShapes.{Read}
 use Rattle.rewriting.proofs.DemandVisits.{one_as, one_role_lem, visit_calls, visit_after, class_if_without_calls, append_ends}

@@ -2,11 +2,13 @@
 use Rattle.std.specs.Prelude.{◌≡◌, refl, Bool, true, false, ℕ, suc}
 use Rattle.std.proofs.Common.{ap, sym, ◌∙◌, subst}
 use Rattle.std.proofs.lemmas.Bool.{false≢true}
-use Rattle.std.proofs.Math.Option.{Option}
+use Rattle.std.specs.declared.option.Option.{Option}
 use Rattle.records.specs.Forest.{end, node, append_f}
 use Rattle.records.specs.Label.{Label, Origin, Trees, ◌∶◌, is}
 use Rattle.rewriting.specs.Parts.{tree, kids_of, Role, module', list, statement, expression, method, constructor, plain, field, role_of, decorators, indexed, of_parameters, parameters_of, decorators_of, is_live, class_kids}
-use Rattle.rewriting.specs.Visit.{Around, State, Result, kept, own, work, since, inside, entering, join, ◌then◌, visit, visit_one, visit_end, visit_node, dead_class, class_if, live_class, live_class_if, decorated₁, decorated₂}
+use Rattle.rewriting.specs.Visit.{Result, kept, own, work, since, inside, entering, join, ◌then◌, visit, visit_one, visit_end, visit_node, dead_class, class_if, live_class, live_class_if, decorated₁, decorated₂}
+use Rattle.rewriting.specs.declared.Around.{Around}
+use Rattle.rewriting.specs.declared.State.{State}
 use Rattle.rewriting.specs.Demand.{Below, AsVisited}
 use Rattle.rewriting.proofs.DemandShapes.{WasRead, role_28, role_36, role_37, one_role, NoMembersAs, NoMembers, Exprs, Head, Params, MethodKids, FieldKids}
 

@@ -1,11 +1,14 @@
 -- Rule 1: the fresh symbols are numbered on from the first without a gap, in order of need, each with one sort. Assumes nothing.
 use Rattle.std.specs.Prelude.{◌≡◌, refl, Bool, true, false, ◌&&◌, List, [], ◌∷◌, ◌++◌, ℕ, suc, ◌+◌, ◌≤◌, length}
 use Rattle.std.proofs.Common.{sym, ◌∙◌, subst, add-zero, arith}
-use Rattle.std.proofs.Math.Option.{Option, none, some}
+use Rattle.std.specs.declared.option.Option.{Option}
+use Rattle.std.specs.declared.option.Option.TheVariants.{None as none, Some as some}
 use Rattle.records.specs.Forest.{end, node, take_f, drop_f, any_f}
 use Rattle.records.specs.Label.{Label, Origin, made, read, Trees, ◌∶◌}
 use Rattle.rewriting.specs.Parts.{Role, module', list, statement, expression, method, constructor, plain, field, role_of, decorators, decorators_of, bare_method, bare_field, is_decorated_member, has_plain_key, elements_of, id_of, is_decorated, is_live, class_kids}
-use Rattle.rewriting.specs.Visit.{Around, State, Result, Taken, Named, sign, signed, class_symbol, name_if, name_of, called₁, called₂, member_if, member, is_ref, named_symbols, symbols_of, decorated₁, decorated₂, live_class_if, live_class, dead_class, class_if, kept, own, signed_by, since, work, inside, entering, join, ◌then◌, visit}
+use Rattle.rewriting.specs.Visit.{Result, Taken, Named, sign, signed, class_symbol, name_if, name_of, called₁, called₂, member_if, member, is_ref, named_symbols, symbols_of, decorated₁, decorated₂, live_class_if, live_class, dead_class, class_if, kept, own, signed_by, since, work, inside, entering, join, ◌then◌, visit}
+use Rattle.rewriting.specs.declared.Around.{Around}
+use Rattle.rewriting.specs.declared.State.{State}
 use Rattle.rewriting.proofs.Facts.{entering_next}
 
 -- one of the four sorts

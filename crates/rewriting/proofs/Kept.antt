@@ -4,7 +4,8 @@ use Rattle.std.specs.Prelude.{◌≡◌, Bool, cond, ◌&&◌, ◌||◌, List, [
 use Rattle.std.proofs.Math.Path.{refl, ap}
 use Rattle.std.proofs.Common.{sym, subst, ◌∙◌, arith, eqb-true}
 use Rattle.std.proofs.Math.Bool.{true, false}
-use Rattle.std.proofs.Math.Option.{Option, none, some}
+use Rattle.std.specs.declared.option.Option.{Option}
+use Rattle.std.specs.declared.option.Option.TheVariants.{None as none, Some as some}
 use Rattle.std.proofs.Math.Dec.{eqb}
 use Rattle.words.specs.Table.{lookup}
 use Rattle.words.specs.Word.{bit1}
@@ -14,7 +15,9 @@ use Rattle.grammar.specs.Grammar.{Slot, row, table, row_of, slots_below}
 use Rattle.grammar.specs.WellFormed.{Allowed, Fits}
 use Rattle.grammar.proofs.Rows.{allowed_row, sole_kind, kind_sole}
 use Rattle.rewriting.specs.Parts.{parameters_of, indexed, of_parameters, first_constructor, Role, module', list, statement, expression, method, constructor, plain, field, role_of, tree, recount, decorators, decorators_of, bare_method, bare_field, is_constructor, kids_of}
-use Rattle.rewriting.specs.Visit.{is_ref, to_alias, renamed, Around, State, Result, called₁, called₂, member_if, member, dead_class, kept, own, since, work, inside, entering, join, ◌then◌, visit}
+use Rattle.rewriting.specs.Visit.{is_ref, to_alias, renamed, Result, called₁, called₂, member_if, member, dead_class, kept, own, since, work, inside, entering, join, ◌then◌, visit}
+use Rattle.rewriting.specs.declared.Around.{Around}
+use Rattle.rewriting.specs.declared.State.{State}
 use Rattle.rewriting.proofs.Roles.{never, Plain, role_case, is_plain, plain_role}
 use Rattle.rewriting.proofs.Fitting.{EachSlot, Of, parameters_are, Above, has_statements, deep_below, category_of}
 

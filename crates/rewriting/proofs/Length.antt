@@ -3,7 +3,8 @@ use Rattle.std.specs.Prelude.{◌≡◌, Bool, cond, ◌&&◌, List, [], ◌∷�
 use Rattle.std.proofs.Math.Path.{refl, ap, subst}
 use Rattle.std.proofs.Common.{◌∙◌, eqb-true}
 use Rattle.std.proofs.Math.Bool.{true, false}
-use Rattle.std.proofs.Math.Option.{Option, none, some}
+use Rattle.std.specs.declared.option.Option.{Option}
+use Rattle.std.specs.declared.option.Option.TheVariants.{None as none, Some as some}
 use native.Mathlib.Omega.{arith}
 use Rattle.words.specs.Table.{lookup}
 use Rattle.words.specs.Word.{bit0, bit1}
@@ -14,7 +15,9 @@ use Rattle.grammar.specs.Scan.{refusal, symbols_of as symbolCount}
 use Rattle.grammar.specs.WellFormed.{Allowed, Fits}
 use Rattle.grammar.proofs.Rows.{sole_kind}
 use Rattle.rewriting.specs.Parts.{tree, is_empty, recount, kids_of, change_kids, module', list, statement, method, constructor, field, role_of, decorators, undecorate, parameters_of, indexed, of_parameters, bare_parameters, decorators_of, bare_method, bare_field, is_constructor, is_decorated_member, has_plain_key, elements_of, with_elements, id_of, has_private_in, has_static, first_constructor, bare_first, is_decorated, is_live, class_kids}
-use Rattle.rewriting.specs.Visit.{Around, State, Result, Taken, Named, class_symbol, plain_name, name_if, name_of, prefix, array, member_call, with_key, called₁, called₂, member_if, member, renamed, Symbols, symbols_of, named_symbols, is_ref, aliased, assignment, block_alias, let_alias, alias_block, call_block, queued, export, first_payload, with_id, decorated_statement, decorated₁, decorated₂, name_class, extend_body, undecorated_if, live_class_if, live_class, dead_class, class_if, whole_module, kept, own, since, work, inside, entering, join, ◌then◌, visit, outermost, module_of, visit_words, rewritten}
+use Rattle.rewriting.specs.Visit.{Result, Taken, Named, class_symbol, plain_name, name_if, name_of, prefix, array, member_call, with_key, called₁, called₂, member_if, member, renamed, Symbols, symbols_of, named_symbols, is_ref, aliased, assignment, block_alias, let_alias, alias_block, call_block, queued, export, first_payload, with_id, decorated_statement, decorated₁, decorated₂, name_class, extend_body, undecorated_if, live_class_if, live_class, dead_class, class_if, whole_module, kept, own, since, work, inside, entering, join, ◌then◌, visit, outermost, module_of, visit_words, rewritten}
+use Rattle.rewriting.specs.declared.Around.{Around}
+use Rattle.rewriting.specs.declared.State.{State}
 use Rattle.rewriting.specs.Answer.{module_words}
 use Rattle.rewriting.proofs.Roles.{role_case, is_plain, plain_role, property_role, accessor_role}
 use Rattle.rewriting.proofs.Fitting.{words_size, module_fits, Above, has_statements, deep_below, elements_are}

@@ -3,7 +3,7 @@
 use Rattle.std.specs.Prelude.{◌≡◌, Bool, true, false, cond, ℕ, zero, suc, ◌+◌, ◌<◌, ◌≤◌, length, replicate, get_or, eqb, ltb}
 use Rattle.std.proofs.Math.Path.{refl, sym, ap, subst}
 use Rattle.std.proofs.Common.{◌∙◌, eqb-true, ltb-true}
-use Rattle.std.proofs.Math.Option.{none}
+use Rattle.std.specs.declared.option.Option.TheVariants.{None as none}
 use mathlib.Core.List.{List, [], ◌∷◌, ◌++◌, map, map-append, append_assoc, append-nil}
 use native.Mathlib.Omega.{arith}
 use Rattle.words.specs.Table.{lookup}
@@ -18,7 +18,8 @@ use Rattle.grammar.specs.WellFormed.{tree_of, Allowed, Fits, Each, Known, WellFo
 use Rattle.grammar.proofs.Rows.{All, all_rows, allowed_row}
 use Rattle.grammar.proofs.Faults.{NotAllowed, fault_le, fault_not_one, fault_2, fault_4, fault_6}
 use Rattle.grammar.proofs.Accepted.{accepted, fits_full}
-use Rattle.rewriting.specs.Visit.{State, Result, visit, outermost, module_of, visit_words, rewritten, reported}
+use Rattle.rewriting.specs.Visit.{Result, visit, outermost, module_of, visit_words, rewritten, reported}
+use Rattle.rewriting.specs.declared.State.{State}
 use Rattle.rewriting.proofs.Facts.{counter}
 use Rattle.rewriting.proofs.Fresh.{fresh_length}
 use Rattle.rewriting.proofs.Fitting.{words_size}

@@ -3,7 +3,8 @@ use Rattle.std.proofs.Math.Path.{◌≡◌, refl, ap, sym, subst}
 use Rattle.std.proofs.Common.{◌∙◌}
 use Rattle.std.specs.Prelude.{Bool, cond, ◌&&◌, List, [], ◌∷◌, ℕ, ◌+◌, ◌*◌, ◌≤◌, length}
 use Rattle.std.proofs.Math.Bool.{true, false}
-use Rattle.std.proofs.Math.Option.{Option, none, some}
+use Rattle.std.specs.declared.option.Option.{Option}
+use Rattle.std.specs.declared.option.Option.TheVariants.{None as none, Some as some}
 use native.Mathlib.Omega.{arith}
 use Rattle.words.specs.Table.{lookup}
 use Rattle.words.specs.Word.{bit1}
@@ -14,7 +15,9 @@ use Rattle.grammar.specs.Scan.{refusal, symbols_of as symbolCount}
 use Rattle.grammar.specs.WellFormed.{Allowed, Fits}
 use Rattle.grammar.proofs.Rows.{sole_kind}
 use Rattle.rewriting.specs.Parts.{Role, module' as whole, list, statement, expression, plain, method, constructor, field, role_of, decorators, decorators_of, bare_method, bare_field, is_decorated_member, has_plain_key, elements_of, id_of, is_decorated, is_live, class_kids}
-use Rattle.rewriting.specs.Visit.{Around, State, Result, Taken, class_symbol, name_if, name_of, called₁, called₂, member_if, member, is_ref, symbols_of, decorated₁, decorated₂, live_class_if, live_class, dead_class, class_if, kept, own, since, work, inside, entering, join, ◌then◌, visit, outermost, module_of, visit_words, reported}
+use Rattle.rewriting.specs.Visit.{Result, Taken, class_symbol, name_if, name_of, called₁, called₂, member_if, member, is_ref, symbols_of, decorated₁, decorated₂, live_class_if, live_class, dead_class, class_if, kept, own, since, work, inside, entering, join, ◌then◌, visit, outermost, module_of, visit_words, reported}
+use Rattle.rewriting.specs.declared.Around.{Around}
+use Rattle.rewriting.specs.declared.State.{State}
 use Rattle.rewriting.proofs.Roles.{Plain, role_case, property_role, accessor_role}
 use Rattle.rewriting.proofs.Facts.{name_next, named_next}
 use Rattle.rewriting.proofs.Fresh.{fresh_length}

@@ -2,7 +2,7 @@
 use Rattle.std.specs.Prelude.{◌≡◌, Bool, true, false, cond, ◌&&◌, List, [], ◌∷◌, ℕ, suc, ◌+◌, ◌*◌, ◌<◌, ◌≤◌, length, ltb, leb}
 use Rattle.std.proofs.Math.Path.{refl, ap}
 use Rattle.std.proofs.Common.{sym, ◌∙◌, arith}
-use Rattle.std.proofs.Math.Option.{none}
+use Rattle.std.specs.declared.option.Option.TheVariants.{None as none}
 use Rattle.std.proofs.Math.Dec.{eqb}
 use borrow.Author.Tests.{eqb-true, eqb-false, eq-eqb, ne_eqb, ltb-true, ltb-false, lt-ltb, le-ltb, le-leb}
 use Rattle.words.specs.Word.{kind_of, payload_of, kind_of_lem, payload_of_lem}
@@ -10,7 +10,8 @@ use Rattle.records.specs.Label.{Label, word_at, words, length_words}
 use Rattle.grammar.specs.Scan.{refusal, symbols_of}
 use Rattle.grammar.proofs.Accepted.{accepted}
 use Rattle.rewriting.specs.Parts.{any_record, is_refused7}
-use Rattle.rewriting.specs.Visit.{State, visit, outermost, module_of, visit_words, reported}
+use Rattle.rewriting.specs.Visit.{visit, outermost, module_of, visit_words, reported}
+use Rattle.rewriting.specs.declared.State.{State}
 use Rattle.rewriting.proofs.Fresh.{IsSort, Numbered, numbered_length, visit_fresh}
 use Rattle.rewriting.proofs.Facts.{counter}
 use Rattle.rewriting.proofs.Fitting.{words_size}

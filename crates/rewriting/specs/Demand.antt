@@ -25,12 +25,15 @@
 -- Of the rewriting only `visit` is named, in some state (AsVisited): the equation for all words settles the numbers; and `inside`, the class directly around.
 -- The report is the definition's own: a promise must not leave it free. For words: DemandWords.
 use Rattle.std.specs.Prelude.{◌≡◌, Bool, true, false, ◌&&◌, ◌||◌, not, cond, List, [], ◌∷◌, ◌++◌, ℕ, ◌+◌, eqb}
-use Rattle.std.proofs.Math.Option.{Option, none, some}
+use Rattle.std.specs.declared.option.Option.{Option}
+use Rattle.std.specs.declared.option.Option.TheVariants.{None as none, Some as some}
 use Rattle.words.specs.Word.{bit0}
 use Rattle.records.specs.Forest.{end, node, take_f, drop_f, append_f, map_f}
 use Rattle.records.specs.Label.{Label, Origin, made, read, Trees, ◌∶◌, is, bit}
 use Rattle.rewriting.specs.Parts.{tree, role_of, decorators, of_parameters, parameters_of, decorators_of, bare_method, bare_field, is_constructor, is_member, is_decorated_member, is_plain_key, elements_of, id_of, has_private_in, first_constructor, is_decorated_class, is_live, class_kids}
-use Rattle.rewriting.specs.Visit.{Around, State, Default, Key, Alias, plain_name, prefix, member_call, to_alias, renamed, assignment, export, inside, visit, outermost}
+use Rattle.rewriting.specs.Visit.{Default, Key, Alias, plain_name, prefix, member_call, to_alias, renamed, assignment, export, inside, visit, outermost}
+use Rattle.rewriting.specs.declared.Around.{Around}
+use Rattle.rewriting.specs.declared.State.{State}
 
 -- ---- records, origins and the report
 

@@ -1,6 +1,7 @@
 -- The parts of records that the rules of document 01 speak of: decorators, parameters, members, the parts of a class. Definitions only.
 use Rattle.std.specs.Prelude.{Bool, true, false, ◌&&◌, ◌||◌, not, cond, [], ◌∷◌, ℕ, suc}
-use Rattle.std.proofs.Math.Option.{Option, none, some}
+use Rattle.std.specs.declared.option.Option.{Option}
+use Rattle.std.specs.declared.option.Option.TheVariants.{None as none, Some as some}
 use Rattle.words.specs.Table.{lookup}
 use Rattle.words.specs.Word.{bit0, bit1}
 use Rattle.records.specs.Forest.{end, node, drop_f, append_f, count_f, any_f}

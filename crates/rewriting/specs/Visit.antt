@@ -1,23 +1,17 @@
 -- The rewriting of a module as a definition on forests: rules 1 to 10 of document 01. Definitions, and the clauses of the visit.
 use Rattle.std.specs.Prelude.{◌≡◌, refl, Bool, true, false, ◌&&◌, ◌||◌, cond, List, [], ◌∷◌, ◌++◌, map, ℕ, zero, suc, eqb}
-use Rattle.std.proofs.Math.Option.{Option, none, some}
+use Rattle.std.specs.declared.option.Option.{Option}
+use Rattle.std.specs.declared.option.Option.TheVariants.{None as none, Some as some}
 use Rattle.words.specs.Word.{bit0}
 use Rattle.records.specs.Forest.{end, node, flat, take_f, drop_f, append_f, count_f, any_f, map_f}
 use Rattle.records.specs.Prefix.{build}
 use Rattle.records.specs.Label.{Label, Origin, made, read, Trees, ◌∶◌, repay, become, is, bit, read_from, words, arity}
 use Rattle.rewriting.specs.Parts.{tree, is_empty, recount, Role, module', list, statement, expression, method, constructor, plain, field, role_of, decorators, undecorate, decorators_of, bare_method, bare_field, is_decorated_member, has_plain_key, elements_of, with_elements, id_of, has_private_in, has_static, first_constructor, bare_first, is_decorated, is_live, class_kids}
-
 -- ---- context, state and result
 
--- the class directly around: is it live, and the symbol of its id
-pub record Around : Type 0 where
-  pub live : Bool
-  pub id : Option ℕ
-
--- the next fresh symbol (rule 1), and the default symbol of the class around, if it has taken one (rule 4)
-pub record State : Type 0 where
-  pub next : ℕ
-  pub default : Option ℕ
+-- the class directly around; the next fresh symbol with the default symbol of that class: structs, which the walkers have too
+use Rattle.rewriting.specs.declared.Around.{Around}
+use Rattle.rewriting.specs.declared.State.{State}
 
 -- what stands there now, the calls queued for the class around, the fresh symbols in order of need, the state behind
 pub record Result : Type 0 where

@@ -1,75 +1,59 @@
 // The symbol report: one word for each fresh symbol of a module's rewriting, every refusal in its order. Reads the words, writes the output only once it is known to be long enough.
 #![tactic(auto)]
 
-ghost use Rattle.std.specs.Prelude.{◌≡◌, ◌≤◌, leb, length};
+ghost use Rattle.std.specs.Prelude.{◌≡◌, leb, length};
 ghost use Rattle.grammar.specs.Scan.{refusal};
-ghost use Rattle.rewriting.specs.Answer.{report_words, report_answer, ReportLent};
+ghost use Rattle.rewriting.specs.Answer.{report_words, report_answer, Reordered, ReportLent};
 ghost use Rattle.counter.specs.Contract.{Planned};
 ghost use Rattle.rewriter.specs.Numbers.{numbers_of};
-ghost use Rattle.symbol_report.specs.Result.{WritesReport};
+ghost use Rattle.symbol_report.specs.Result.{WritesReport, in_order, as_many, report_fits};
 
-use counter::{Count, Scope};
-use inspect::NONE;
-use report_walk::Reported;
-use rewriter::Answer;
+use grammar::Refusal;
+use records::Note;
+use report_walk::Walk;
+use rewriter::{Job, Written};
+use rewriting::{Around, State};
 
-// Writes the report of the module in `ws` to the start of `out`. The order of its words is free. A module that validation refuses takes no notes, any
-// other takes notes of one of three sizes: short ones are cleared sooner.
-pub fn report(ws: &[u32], out: &mut [u32]) -> Answer
+// Writes the report of the module in `ws` to the start of `out`. The order of its words is free.
+pub fn report(ws: &[u32], out: &mut [u32]) -> Result<Written, Refusal>
     ensures numbers { numbers_of result ≡ report_answer ws.now out.old }
     ensures lent { ReportLent ws.now out.old out.new }
 {
-    let v = validation::number(validation::validate(ws));
-    if v != 0 {
-        return Answer {
-            code: v,
-            written: 0,
-            fresh: 0,
-        };
-    }
-    if ws.len() <= 64 {
-        let mut notes = [0u32; 64];
-        return report_by(ws, &mut notes, out);
-    }
-    if ws.len() <= 512 {
-        let mut notes = [0u32; 512];
-        return report_by(ws, &mut notes, out);
-    }
-    let mut notes = [0u32; 4096];
-    report_by(ws, &mut notes, out)
+    rewriter::perform::<Reporting>(ws, out)
 }
 
-// `report` of a module that validation accepts, also for the C entry; notes for all of its words are lent.
-pub fn report_by(ws: &[u32], notes: &mut [u32], out: &mut [u32]) -> Answer
-    requires { (refusal ws.now ≡ 0) × (length ws.now ≤ length notes.old) }
-    ensures numbers { numbers_of result ≡ report_answer ws.now out.old }
-    ensures lent { ReportLent ws.now out.old out.new }
-{
-    let v = rewriter::turned_back_by(ws, notes);
-    if v != 0 {
-        return Answer {
-            code: v,
-            written: 0,
-            fresh: 0,
-        };
+// The job of the symbol report.
+pub struct Reporting;
+
+impl Job for Reporting {
+    ghost words = { report_words };
+
+    ghost Same = { Reordered };
+
+    // Not one function with the rewriting's `run`: what the notes need, the walk and its answer differ, so that the trait would have more members than this
+    // has lines.
+    fn run(ws: &[u32], notes: &mut [Note], out: &mut [u32]) -> Result<Written, Refusal> {
+        rewriter::turned_back_by(ws, notes)?;
+        if !has_room(ws, notes, out.len()) {
+            return Err(Refusal::OutputTooShort);
+        }
+        let r = write_report(ws, notes, out);
+        let fresh = r.state.next - inspect::payload_at(ws, 1);
+        Ok(Written {
+            words: r.pos,
+            fresh,
+        })
     }
-    if !has_room(ws, notes, out.len()) {
-        return Answer {
-            code: 8,
-            written: 0,
-            fresh: 0,
-        };
-    }
-    let r = write_report(ws, notes, out);
-    Answer {
-        code: 0,
-        written: r.pos,
-        fresh: r.next - inspect::payload_at(ws, 1),
-    }
+
+    ghost in_order = { in_order };
+
+    ghost as_many = { as_many };
+
+    ghost fits = { report_fits };
 }
 
 // Whether `room` words are enough for the module's report. A third of its words always are (`report_length`); else they are counted.
-fn has_room(ws: &[u32], notes: &[u32], room: usize) -> bool
+fn has_room(ws: &[u32], notes: &[Note], room: usize) -> bool
     requires { (refusal ws.now ≡ 0) × Planned ws.now notes.now }
     ensures { result ≡ leb (length (report_words ws.now)) room }
 {
@@ -82,7 +66,7 @@ fn has_room(ws: &[u32], notes: &[u32], room: usize) -> bool
 }
 
 // The module's report, at the start of the output, cut where that ends.
-fn write_report(ws: &[u32], notes: &[u32], out: &mut [u32]) -> Reported
+fn write_report(ws: &[u32], notes: &[Note], out: &mut [u32]) -> Walk
     requires { (refusal ws.now ≡ 0) × Planned ws.now notes.now }
     ensures { WritesReport ws.now out.old out.new result }
 {
@@ -90,16 +74,18 @@ fn write_report(ws: &[u32], notes: &[u32], out: &mut [u32]) -> Reported
     report_walk::report_record(
         ws,
         notes,
-        0,
-        Scope {
+        Around {
             live: false,
-            id: NONE,
+            id: None,
         },
-        Count {
-            next: s,
-            default: NONE,
+        Walk {
+            at: 0,
+            pos: 0,
+            state: State {
+                next: s,
+                default: None,
+            },
         },
         out,
-        0,
     )
 }

@@ -1,18 +1,19 @@
 -- A record in which nothing changes: its words are written as they were read, under the classes around. Assumes nothing.
-use Rattle.std.specs.Prelude.{◌≡◌, true, List, [], ◌∷◌, ◌++◌, ℕ, ◌+◌, ◌-◌, ◌/◌, ◌<◌, ◌≤◌, length}
+use Rattle.std.specs.Prelude.{◌≡◌, true, List, [], ◌∷◌, ◌++◌, ℕ, ◌+◌, ◌-◌, ◌<◌, ◌≤◌, length}
+use Rattle.records.specs.declared.Note.{Note}
 use Rattle.std.proofs.Math.Path.{refl, ap, sym}
 use Rattle.std.proofs.Common.{subst, ◌∙◌, append-nil, append_assoc, arith}
 use Rattle.records.specs.Forest.{take_f, count_f, size}
 use Rattle.records.specs.Place.{records_at, label_at, end_of, record_one, end_low, end_high}
 use Rattle.output.specs.Overlay.{Wrote, wrote_none, wrote_then}
+use Rattle.rewriting.specs.declared.Around.{Around}
+use Rattle.rewriting.specs.declared.State.{State}
 use Rattle.class_stack.specs.Renaming.{Ready as StackReady}
 use Rattle.class_stack.specs.declared.ClassStack.{ClassStack}
 use Rattle.walk_laws.specs.Written.{written}
 use Rattle.walk_laws.specs.Still.{words_from, written_row, from_first, from_none, still_here, still_after}
-use Rattle.counter.specs.Contract.{around_of, still_in, Noted}
-use Rattle.counter.specs.declared.Scope.{Scope}
-use Rattle.counter.specs.declared.Count.{Count}
-use Rattle.transform.specs.Contract.{word_below, words_of, state_in, here_at, after_at, Asks, Emitted}
+use Rattle.counter.specs.Contract.{Noted}
+use Rattle.transform.specs.Contract.{word_below, words_of, here_at, after_at, Asks, Emitted}
 
 -- what the walker that copies asks: a place and an end behind it, and room for the words between them
 pub record Copies (ws : List ℕ) (at e : ℕ) (c : ClassStack) (pos : ℕ) : Type 0 where
@@ -54,17 +55,17 @@ module _ {ws : List ℕ} {at e : ℕ} {c : ClassStack} {pos : ℕ} {o : List ℕ
 
 -- ---- a record
 
-module _ {ws notes : List ℕ} {at : ℕ} {c : ClassStack} {pos : ℕ} (a : Scope) (s : Count) (f : Asks ws notes at 1 s.next c pos (size (here_at ws at 1 a s))) (h : at < length ws) (w : ℕ)
-    (t : Noted ws at w) (b : still_in w ≡ true) where
+module _ {ws : List ℕ} {notes : List Note} {at : ℕ} {c : ClassStack} {pos : ℕ} (a : Around) (s : State) (f : Asks ws notes at 1 s.next c pos (size (here_at ws at 1 a s))) (h : at < length ws) (w : Note)
+    (t : Noted ws at w) (b : w.still ≡ true) where
   here : here_at ws at 1 a s ≡ take_f 1 (records_at ws at)
   unfolding here_at
-  here = still_here ws f.ready.whole at h (t.still b) (around_of a) (state_in s)
+  here = still_here ws f.ready.whole at h (t.still b) a s
 
-  words : words_of c (here_at ws at 1 a s) ≡ words_from (word_below c) ws at (w / 65536 - at)
+  words : words_of c (here_at ws at 1 a s) ≡ words_from (word_below c) ws at (w.end - at)
   unfolding words_of
   words = ap (written (word_below c)) here ∙ written_row (word_below c) ws at 1 ∙ ap (λ (e : ℕ). words_from (word_below c) ws at (e - at)) (sym t.place)
 
-  pub copies : Copies ws at (w / 65536) c pos
+  pub copies : Copies ws at w.end c pos
   copies = record {
     stack = f.stack;
     some = omega (arith, t.place, end_low ws at 1);
@@ -77,16 +78,16 @@ module _ {ws notes : List ℕ} {at : ℕ} {c : ClassStack} {pos : ℕ} (a : Scop
       sized = unfold end_of in refl
 
   -- once they are written the record is: it is one, and the state behind it is that in front
-  pub copied_emits : {o o' : List ℕ} {p : ℕ} → Wrote o pos (words_from (word_below c) ws at (w / 65536 - at)) o' p →
-      Emitted ws at 1 a s c o pos o' (record { at = w / 65536; pos = p; next = s.next; default = s.default; count = 1 })
-  copied_emits {o} {o'} {p} g = record {
+  pub copied_emits : {o o' : List ℕ} {p m : ℕ} → Wrote o pos (words_from (word_below c) ws at (w.end - at)) o' p →
+      Emitted ws at 1 a s c o pos m o' (record { at = w.end; pos = p; state = s; count = m + 1 })
+  copied_emits {o} {o'} {p} {m} g = record {
     moved = record {
       wrote = subst (λ (l : List ℕ). Wrote o pos l o' p) (sym words) g;
       place = t.place;
-      state = after ∙ (unfold state_in in refl);
+      state = after;
     };
-    number = sym (ap count_f here ∙ ap count_f (record_one ws at h) ∙ (unfold count_f in refl));
+    number = ap (m +◌) (sym (ap count_f here ∙ ap count_f (record_one ws at h) ∙ (unfold count_f in refl)));
   }
     where
-      after : after_at ws at 1 a s ≡ state_in s
-      after = unfold after_at in still_after ws f.ready.whole at h (t.still b) (around_of a) (state_in s)
+      after : after_at ws at 1 a s ≡ s
+      after = unfold after_at in still_after ws f.ready.whole at h (t.still b) a s

@@ -1,38 +1,45 @@
 -- Records whose word stays, so that what stands in them becomes what it becomes by itself. Assumes nothing.
-use Rattle.std.specs.Prelude.{◌≡◌, refl, Bool, ◌&&◌, ℕ, ◌+◌, ◌%◌, ◌<◌, eqb, length, get_or}
+use Rattle.std.specs.Prelude.{◌≡◌, refl, Bool, ◌⊎◌, ℕ, ◌+◌, ◌<◌, ◌≤◌, eqb, length, get_or}
+use Rattle.records.specs.Ends.{blank}
+use Rattle.records.specs.declared.Note.{Note}
+use Rattle.std.proofs.Math.Logic.{⊎_elim}
 use Rattle.std.proofs.Common.{ap, ◌∙◌, arith}
 use Rattle.std.proofs.Math.Path.{sym}
 use Rattle.std.proofs.Math.Bool.{true, false}
-use Rattle.std.proofs.lemmas.Bool.{false≢true}
 use mathlib.Core.List.{List, [], ◌∷◌}
 use borrow.Author.Tests.{eqb-true, eqb-false, eq-eqb, ne_eqb}
 use Rattle.words.specs.Table.{lookup}
 use Rattle.words.specs.Word.{bit1, kind_of}
 use Rattle.words.specs.Shape.{bit_of}
+use Rattle.std.specs.declared.option.Option.TheVariants.{None as none}
+use Rattle.records.specs.Forest.{take_f}
 use Rattle.records.specs.Label.{Label, Trees, read_at, is, bit}
 use Rattle.records.specs.Place.{records_at, label_at, arity_at, kids_at}
 use Rattle.grammar.specs.Grammar.{Slot, module', class_expression, row, table, row_of, slots, slots_below}
 use Rattle.grammar.proofs.Children.{allowed_sole}
 use Rattle.grammar.proofs.Rows.{sole_kind}
 use Rattle.grammar.specs.WellFormed.{Fits}
-use Rattle.rewriting.specs.Parts.{plain, constructor, role_of, tree, is_member, is_constructor, is_decorated_member}
-use Rattle.rewriting.specs.Visit.{Around, State, visit, visit_one, work, since, own, kept, inside, entering}
+use Rattle.rewriting.specs.Parts.{plain, constructor, list as list_role, role_of, tree, is_member, is_constructor, is_decorated_member, is_live, id_of}
+use Rattle.rewriting.specs.Visit.{visit, visit_one, work, since, own, kept, inside, entering}
+use Rattle.rewriting.specs.declared.Around.{Around}
+use Rattle.rewriting.specs.declared.State.{State}
 use Rattle.walk_laws.specs.Slots.{Standing, standing_at, kind_row, row_first}
 use Rattle.walk_laws.specs.Roles.{plain_26}
 use Rattle.walk_laws.specs.Kinds.{class_inside, class_kind}
 use Rattle.walk_laws.specs.After.{after_plain, after_constructor}
 use Rattle.walk_laws.specs.Bare.{undecorated_here, undecorated_after}
-use Rattle.counter.specs.Contract.{around_of, mark_in, Planned}
-use Rattle.counter.specs.declared.Scope.{Scope}
-use Rattle.counter.specs.declared.Count.{Count}
-use Rattle.transform.specs.Contract.{state_in, here_at, after_at, kids_here}
+use Rattle.counter.specs.Contract.{Planned}
+use Rattle.transform.specs.Contract.{here_at, after_at, kids_here}
+use Rattle.transform.specs.declared.Sort.{Sort}
+use Rattle.transform.specs.declared.Sort.TheVariants.{List as List_, Class, Live, Member, Kept}
+use Rattle.transform.specs.Plain.{is_plain}
 use Rattle.transform.specs.Steps.{here_one, after_one, here_kids, after_kids}
 
 -- the word of the record at `at` stays, and the records in it become what they become in a row of their own
 pub record KeptAt (ws : List ℕ) (at : ℕ) : Type 0 where
   pub inside : at < length ws
-  pub here : (a : Scope) (s : Count) → here_at ws at 1 a s ≡ tree (label_at ws at) (here_at ws (at + 1) (arity_at ws at) a s)
-  pub after : (a : Scope) (s : Count) → after_at ws at 1 a s ≡ after_at ws (at + 1) (arity_at ws at) a s
+  pub here : (a : Around) (s : State) → here_at ws at 1 a s ≡ tree (label_at ws at) (here_at ws (at + 1) (arity_at ws at) a s)
+  pub after : (a : Around) (s : State) → after_at ws at 1 a s ≡ after_at ws (at + 1) (arity_at ws at) a s
 
 -- ---- by role
 
@@ -78,8 +85,8 @@ module _ (ws : List ℕ) (at : ℕ) (h : at < length ws) where
       ((around : Around) (s : State) → (visit_one around own_label (kids_at ws at) s).after ≡ (visit around (kids_at ws at) s).after) → KeptAt ws at
   kept_by e g = record {
     inside = h;
-    here = λ a s. here_one ws at a s h ∙ e (around_of a) (state_in s) ∙ ap (tree own_label) (sym (here_kids ws at a s ∙ (unfold kids_here in refl)));
-    after = λ a s. after_one ws at a s h ∙ g (around_of a) (state_in s) ∙ sym (after_kids ws at a s);
+    here = λ a s. here_one ws at a s h ∙ e a s ∙ ap (tree own_label) (sym (here_kids ws at a s ∙ (unfold kids_here in refl)));
+    after = λ a s. after_one ws at a s h ∙ g a s ∙ sym (after_kids ws at a s);
   }
 
   pub kept_plain : role_of own_label ≡ plain → KeptAt ws at
@@ -139,25 +146,14 @@ in_39 : bit_of changing 39 ≡ 1
 unfolding bit_of
 in_39 = refl
 
-decorated_member : (l : Label) (k : Trees) → is_decorated_member l k ≡ true → is_member l ≡ true
-unfolding is_decorated_member
-decorated_member l k e = go (is_member l) _ e
-  where
-    go : (b x : Bool) → (b && x) ≡ true → b ≡ true
-    go true x e = refl
-    go false x e = absurd (false≢true e)
-
 -- what the mark of a member says
-module _ (ws notes : List ℕ) (at : ℕ) (h : at < length ws) (p : Planned ws notes) where
-  mark_says : (n : ℕ) → (label_at ws at).kind ≡ n → (n ≡ 4 → ⊥) → (n ≡ 26 → ⊥) → (n ≡ 29 → ⊥) → (n ≡ 40 → ⊥) → mark_in (get_or notes at 0) ≡ is_decorated_member (label_at ws at) (kids_at ws at)
+module _ (ws : List ℕ) (notes : List Note) (at : ℕ) (h : at < length ws) (p : Planned ws notes) where
+  mark_says : (n : ℕ) → (label_at ws at).kind ≡ n → (n ≡ 4 → ⊥) → (n ≡ 26 → ⊥) → (n ≡ 29 → ⊥) → (n ≡ 40 → ⊥) → (get_or notes at blank).marked ≡ is_decorated_member (label_at ws at) (kids_at ws at)
   mark_says n e a b c d = p.members at h (λ g. a (sym e ∙ g)) (λ g. b (sym e ∙ g)) (λ g. c (sym e ∙ g)) (λ g. d (sym e ∙ g))
 
-  pub marked_member : (n : ℕ) → (label_at ws at).kind ≡ n → (n ≡ 4 → ⊥) → (n ≡ 26 → ⊥) → (n ≡ 29 → ⊥) → (n ≡ 40 → ⊥) → (get_or notes at 0 % 2 ≡ 0 → ⊥) → is_member (label_at ws at) ≡ true
-  marked_member n e a b c d m = decorated_member (label_at ws at) (kids_at ws at) (sym (mark_says n e a b c d) ∙ eq-eqb (get_or notes at 0 % 2) 1 (omega (arith, m)))
-
-module _ (ws notes : List ℕ) (at : ℕ) (h : at < length ws) (whole : Fits (module' ∷ []) (records_at ws 0)) (p : Planned ws notes) (mark : get_or notes at 0 % 2 ≡ 0) where
+module _ (ws : List ℕ) (notes : List Note) (at : ℕ) (h : at < length ws) (whole : Fits (module' ∷ []) (records_at ws 0)) (p : Planned ws notes) (mark : (get_or notes at blank).marked ≡ false) where
   bare_at : (n : ℕ) → (label_at ws at).kind ≡ n → (n ≡ 4 → ⊥) → (n ≡ 26 → ⊥) → (n ≡ 29 → ⊥) → (n ≡ 40 → ⊥) → is_decorated_member (label_at ws at) (kids_at ws at) ≡ false
-  bare_at n e a b c d = sym (mark_says ws notes at h p n e a b c d) ∙ ne_eqb (get_or notes at 0 % 2) 1 (λ g. omega (arith, mark, g))
+  bare_at n e a b c d = sym (mark_says ws notes at h p n e a b c d) ∙ mark
 
   pub unmarked_30 : (label_at ws at).kind ≡ 30 → KeptAt ws at
   unmarked_30 e = kept_30 ws at h whole (bare_at 30 e (λ g. omega arith) (λ g. omega arith) (λ g. omega arith) (λ g. omega arith)) e
@@ -203,3 +199,41 @@ module _ (ws : List ℕ) (whole : Fits (module' ∷ []) (records_at ws 0)) (at :
       let r = kind_row ws at 20 t _ e (below_20 t.slot (label_at ws at).payload) in
       let f = row_first ws (at + 1) 0 class_expression [] r.1 in
       kept_plain ws (at + 1) f.0 (plain_26 (label_at ws (at + 1)) (allowed_sole class_expression (label_at ws (at + 1)) f.1 tt))
+
+-- ---- what becomes of a record
+
+-- a class expression, or a class statement whose class is declare or plain
+abbrev pub StaysAt : List ℕ → ℕ → Type 0
+StaysAt ws at =
+    ((label_at ws at).kind ≡ 20) ⊎
+    (((label_at ws at).kind ≡ 4) × (is_live (take_f 1 (records_at ws (at + 1))) ≡ true → is_plain (kids_at ws (at + 1)) ≡ true))
+
+-- the class below it, as the class around what stands in it
+pub record ScopeBelow (ws : List ℕ) (at : ℕ) (b : Around) : Type 0 where
+  pub expression : (label_at ws at).kind ≡ 20 → (b.live ≡ false) × (b.id ≡ none)
+  pub statement : (label_at ws at).kind ≡ 4 → (b.live ≡ is_live (take_f 1 (records_at ws (at + 1)))) × (b.id ≡ id_of (kids_at ws (at + 1)))
+
+-- as `sort_at` says of the record at `at`
+abbrev pub SortAt : List ℕ → ℕ → Sort → Type 0
+SortAt ws at List_ = role_of (label_at ws at) ≡ list_role
+SortAt ws at Class = StaysAt ws at
+SortAt ws at Live = ((label_at ws at).kind ≡ 4) × (is_live (take_f 1 (records_at ws (at + 1))) ≡ true)
+SortAt ws at Member = is_decorated_member (label_at ws at) (kids_at ws at) ≡ true
+SortAt ws at Kept = KeptAt ws at
+
+-- the class below a class that stays
+pub kept_below : (ws : List ℕ) → Fits (module' ∷ []) (records_at ws 0) → (at : ℕ) → at < length ws → StaysAt ws at → KeptAt ws (at + 1)
+kept_below ws whole at h = ⊎_elim (λ e. kept_expression ws whole at h e) (λ e. kept_statement ws whole at h e.0)
+
+pub list_kind : (l : Label) → (l.kind ≡ 3) ⊎ ((l.kind ≡ 33) ⊎ (l.kind ≡ 39)) → role_of l ≡ list_role
+unfolding role_of lookup
+list_kind l h = ⊎_elim (λ e. rw e) (λ g. ⊎_elim (λ e. rw e) (λ e. rw e) g) h
+
+module _ (ws : List ℕ) (notes : List Note) (at : ℕ) (h : at < length ws) (whole : Fits (module' ∷ []) (records_at ws 0)) (p : Planned ws notes) where
+  pub sort_unmarked : 30 ≤ (label_at ws at).kind → (label_at ws at).kind < 33 → (get_or notes at blank).marked ≡ false → KeptAt ws at
+  sort_unmarked l u z = go (eqb (label_at ws at).kind 30) refl (eqb (label_at ws at).kind 31) refl
+    where
+      go : (x : Bool) → eqb (label_at ws at).kind 30 ≡ x → (y : Bool) → eqb (label_at ws at).kind 31 ≡ y → KeptAt ws at
+      go true e y f = unmarked_30 ws notes at h whole p z (eqb-true _ 30 e)
+      go false e true f = unmarked_31 ws notes at h whole p z (eqb-true _ 31 f)
+      go false e false f = unmarked_32 ws notes at h whole p z (omega (arith, eqb-false _ 30 e, eqb-false _ 31 f))

@@ -1,11 +1,13 @@
 -- The words and numbers of the functions that no walker stands below, case by case. Assumes nothing.
-use Rattle.std.specs.Prelude.{◌≡◌, Bool, ◌&&◌, not, ◌⊎◌, eqb, ltb}
+use Rattle.std.specs.Prelude.{◌≡◌, Bool, ◌&&◌, not, eqb, ltb}
 use Rattle.std.proofs.Math.Path.{refl, ap, sym}
 use Rattle.std.proofs.Common.{◌∙◌, subst, true≢false, eq-eqb, ne_eqb, ltb-true, ltb-false}
 use Rattle.std.proofs.Math.Bool.{true, false, cond}
-use Rattle.std.proofs.Math.Logic.{⊎_elim}
-use Rattle.std.proofs.Math.Option.{Option, none, some}
-use mathlib.Core.List.{List, [], ◌∷◌, ◌++◌}
+use Rattle.std.specs.Option.{option_or}
+use Rattle.std.proofs.lemmas.Option.{none-some, same_Some}
+use Rattle.std.specs.declared.option.Option.{Option}
+use Rattle.std.specs.declared.option.Option.TheVariants.{None as none, Some as some}
+use mathlib.Core.List.{List, [], ◌∷◌}
 use Prim.Native.Nat.{ℕ, zero, suc, ◌+◌, ◌%◌, ◌<◌, ◌≤◌}
 use native.Mathlib.Omega.{arith}
 use Rattle.std.proofs.Math.ListN.{length}
@@ -14,18 +16,16 @@ use Rattle.records.specs.Label.{Label, is, ◌∶◌}
 use Rattle.records.specs.Place.{label_at, arity_at, kids_at, end_of}
 use Rattle.output.specs.Overlay.{Wrote}
 use Rattle.rewriting.specs.Parts.{is_decorated_member, is_plain_key, has_plain_key}
+use Rattle.rewriting.specs.declared.Around.{Around}
 use Rattle.class_stack.specs.Renaming.{Sub, subs}
 use Rattle.class_stack.specs.declared.ClassStack.{ClassStack}
-use Rattle.inspect.specs.Child.{opt_of, opt_is, opt_no, opt_some, kind_past, second_none, second_here}
+use Rattle.inspect.specs.Child.{kind_past, second_none, second_here}
 use Rattle.inspect.specs.Class.{key_second, plain_kind}
 use Rattle.walk_laws.specs.Written.{word_by}
 use Rattle.walk_laws.specs.Calls.{symbol_of, prefix_words, name_word}
-use Rattle.walk_laws.specs.ClassPlan.{under, optional, block_words, export_words, is_some, one}
-use Rattle.counter.specs.declared.Scope.{Scope}
+use Rattle.walk_laws.specs.ClassPlan.{under, optional, export_words}
 use Rattle.transform.specs.Under.{word_under, under_push}
 use Rattle.transform.specs.Contract.{word_below, takes_key}
-use Rattle.transform.specs.ClassWords.{body_word, front_of, let_words, head_of, flags_of, front_words}
-use Rattle.transform.specs.declared.ClassPlan.{ClassPlan}
 
 -- the same words
 pub wrote_as : {o : List ℕ} {at : ℕ} {ws vs o' : List ℕ} {n : ℕ} → ws ≡ vs → Wrote o at ws o' n → Wrote o at vs o' n
@@ -33,31 +33,17 @@ wrote_as {o} {at} {o' = o'} {n} e w = subst (λ (l : List ℕ). Wrote o at l o' 
 
 -- ---- a symbol, or none
 
-module _ (word : ℕ → ℕ → ℕ) (k p : ℕ) where
-  pub optional_no : p ≡ 67108864 → [] ≡ optional word k (opt_of p)
-  unfolding optional
-  optional_no e = rw (opt_no p e)
+pub optional_length : (word : ℕ → ℕ → ℕ) (k : ℕ) (o : Option ℕ) → length (optional word k o) ≤ 1
+unfolding optional
+optional_length word k none = omega arith
+optional_length word k (some q) = omega arith
 
-  pub optional_is : (p ≡ 67108864 → ⊥) → word k p ∷ [] ≡ optional word k (opt_of p)
-  unfolding optional
-  optional_is h = rw (opt_is p h)
-
-  pub optional_length : length (optional word k (opt_of p)) ≤ 1
-  unfolding optional
-  optional_length = go (opt_of p)
-    where
-      go : (o : Option ℕ) → length (optional word k o) ≤ 1
-      go none = omega arith
-      go (some q) = omega arith
-
-module _ (id d : ℕ) where
-  pub symbol_default : id ≡ 67108864 → (id < 67108864) ⊎ (d < 67108864) → d ≡ symbol_of (opt_of id) (opt_of d)
-  unfolding symbol_of
-  symbol_default e h = let g : d < 67108864 = ⊎_elim (λ l. absurd (omega arith)) (λ r. r) h in rw (opt_no id e, opt_some d g)
-
-  pub symbol_id : (id ≡ 67108864 → ⊥) → id ≡ symbol_of (opt_of id) (opt_of d)
-  unfolding symbol_of
-  symbol_id h = rw (opt_is id h)
+-- the symbol of a class that has one
+pub symbol_is : (id d : Option ℕ) (c : ℕ) → option_or id d ≡ some c → symbol_of id d ≡ c
+unfolding symbol_of
+symbol_is (some i) d c e = same_Some i c e
+symbol_is none (some i) c e = same_Some i c e
+symbol_is none none c e = absurd (none-some c e)
 
 -- ---- members
 
@@ -132,7 +118,7 @@ module _ (word : ℕ → ℕ → ℕ) (ws : List ℕ) (at q : ℕ) (e : q ≡ en
         word 9 n ∷ [] ≡ name_word word (label_at ws (end_of ws (at + 1) 1)) (has_plain_key (kids_at ws at)) n ∷ []
     name_fresh a b c = ap (λ (w : ℕ). w ∷ []) (sym (name_by false false false (ne_eqb k 34 a) (ne_eqb k 35 b) c))
 
-module _ (ws : List ℕ) (at : ℕ) (a : Scope) where
+module _ (ws : List ℕ) (at : ℕ) (a : Around) where
   takes_by : (x y z : Bool) → a.live ≡ x → is_decorated_member (label_at ws at) (kids_at ws at) ≡ y → has_plain_key (kids_at ws at) ≡ z → takes_key ws at a ≡ (x && y && not z)
   unfolding takes_key
   takes_by x y z e f g = rw (e, f, g)
@@ -168,77 +154,7 @@ module _ (word : ℕ → ℕ → ℕ) (c : ℕ) where
   export_default (suc zero) h g = absurd (g refl)
   export_default (suc (suc x)) h g = refl
 
-module _ (g : ClassPlan) (c : ClassStack) where
-  pub body_same : g.alias ≡ 67108864 → (k p : ℕ) → body_word g c k p ≡ word_below c k p
-  unfolding body_word under
-  body_same e k p = rw (opt_no g.alias e)
-
-  pub body_push : (r : ClassStack) → (g.alias ≡ 67108864 → ⊥) → subs r ≡ record { symbol = g.outer; alias = g.alias } ∷ subs c → (k p : ℕ) → body_word g c k p ≡ word_below r k p
-  unfolding body_word word_below
-  body_push r h e k p =
-      ap (λ (o : Option ℕ). under (word_under (subs c)) g.outer o k p) (opt_is g.alias h)
-      ∙ under_push (subs c) g.outer g.alias k p
-      ∙ ap (λ (ss : List Sub). word_under ss k p) (sym e)
-
-  -- the block in front
-  front_by : (x : Bool) → front_of g ≡ x → front_words g c ≡ cond x (block_words (word_below c) (opt_of g.alias)) []
-  unfolding front_words
-  front_by x e = rw e
-
-  one_no : (x : Bool) → one x ≡ 0 → x ≡ false
-  unfolding one
-  one_no true e = absurd (omega (arith, e))
-  one_no false e = refl
-
-  one_yes : (x : Bool) → (one x ≡ 0 → ⊥) → x ≡ true
-  unfolding one
-  one_yes true h = refl
-  one_yes false h = absurd (h refl)
-
-  pub front_none : one (front_of g) ≡ 0 → [] ≡ front_words g c
-  front_none e = sym (front_by false (one_no (front_of g) e))
-
-  pub front_alias : (one (front_of g) ≡ 0 → ⊥) → g.alias ≡ 67108864 → ⊥
-  front_alias h e = h (unfold front_of is_some one in rw (opt_no g.alias e))
-
-  pub front_block : (one (front_of g) ≡ 0 → ⊥) →
-      word_below c 33 1 ∷ word_below c 2 0 ∷ word_below c 18 g.alias ∷ word_below c 15 0 ∷ [] ≡ front_words g c
-  front_block h = sym (front_by true (one_yes (front_of g) h) ∙ ap (block_words (word_below c)) (opt_is g.alias (front_alias h)) ∙ (unfold block_words in refl))
-
-  -- the flags
-  flags_by : (p : ℕ) (x : Bool) → (not (is_some (opt_of g.id)) && is_some (opt_of g.inner)) ≡ x → flags_of g c p ≡ p + one x
-  unfolding flags_of
-  flags_by p x e = rw e
-
-  pub flags_id : (p : ℕ) → (g.id ≡ 67108864 → ⊥) → p ≡ flags_of g c p
-  unfolding one
-  flags_id p h = sym (flags_by p false (unfold is_some in rw (opt_is g.id h)) ∙ omega arith)
-
-  pub flags_nameless : (p : ℕ) → g.id ≡ 67108864 → g.inner ≡ 67108864 → p ≡ flags_of g c p
-  unfolding one
-  flags_nameless p e f = sym (flags_by p false (unfold is_some in rw (opt_no g.id e, opt_no g.inner f)) ∙ omega arith)
-
-  pub flags_named : (p : ℕ) → g.id ≡ 67108864 → (g.inner ≡ 67108864 → ⊥) → p + 1 ≡ flags_of g c p
-  unfolding one
-  flags_named p e h = sym (flags_by p true (unfold is_some in rw (opt_no g.id e, opt_is g.inner h)))
-
-  -- the words in front of the class
-  pub head_undecorated : (p : ℕ) → g.decorated ≡ false → word_below c 4 p ∷ [] ≡ head_of g c p
-  unfolding head_of
-  head_undecorated p e = rw e
-
-  pub head_private : (p : ℕ) → g.decorated ≡ true → g.private ≡ true → word_below c 4 p ∷ [] ≡ head_of g c p
-  unfolding head_of
-  head_private p e f = rw (e, f)
-
-  pub head_let : (p : ℕ) → g.decorated ≡ true → g.private ≡ false → let_words g c ≡ head_of g c p
-  unfolding head_of
-  head_let p e f = rw (e, f)
-
-  pub let_fixed : g.fixed ≡ true → word_below c 5 g.outer ∷ word_below c 20 0 ∷ [] ≡ let_words g c
-  unfolding let_words
-  let_fixed e = rw e
-
-  pub let_free : g.fixed ≡ false → word_below c 5 g.outer ∷ (optional (word_below c) 18 (opt_of g.alias) ++ (word_below c 20 0 ∷ [])) ≡ let_words g c
-  unfolding let_words
-  let_free e = rw e
+-- in a body the stack has one class more where the class has an alias
+pub body_push : (c r : ClassStack) (o b : ℕ) → subs r ≡ record { symbol = o; alias = b } ∷ subs c → (k p : ℕ) → under (word_below c) o (some b) k p ≡ word_below r k p
+unfolding word_below
+body_push c r o b e k p = under_push (subs c) o b k p ∙ ap (λ (ss : List Sub). word_under ss k p) (sym e)

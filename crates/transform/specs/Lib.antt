@@ -11,6 +11,7 @@ pub mod Steps
 pub mod StepsClasses
 pub mod Copies
 pub mod Kept
+pub mod Sole
 pub mod StepsRecords
 pub mod StepsKept
 pub mod StepsCalls

@@ -1,15 +1,19 @@
 -- A class statement that stays one: its class is declare, or neither it nor a member of it is decorated. Assumes nothing.
 use Rattle.std.specs.Prelude.{◌≡◌, refl, Bool, true, false, ◌||◌, not, List, [], ◌∷◌, ℕ, ◌+◌, ◌<◌, length, get_or}
+use Rattle.records.specs.Ends.{blank}
+use Rattle.records.specs.declared.Note.{Note}
 use Rattle.std.proofs.Math.Path.{ap}
 use Rattle.std.proofs.Common.{sym, ◌∙◌, arith}
-use Rattle.std.proofs.Math.Option.{Option}
+use Rattle.std.specs.declared.option.Option.{Option}
 use Rattle.records.specs.Forest.{end, node, take_f, count_f}
 use Rattle.records.specs.Label.{Label, Trees}
 use Rattle.records.specs.Place.{records_at, label_at, kids_at}
 use Rattle.grammar.specs.Grammar.{module'}
 use Rattle.grammar.specs.WellFormed.{Fits}
 use Rattle.rewriting.specs.Parts.{tree, role_of, statement, is_empty, is_decorated, is_decorated_member, is_live, elements_of, id_of, class_kids}
-use Rattle.rewriting.specs.Visit.{Around, State, Result, visit, visit_one, work, since, own, inside, entering, dead_class, class_if, live_class_if, undecorated_if}
+use Rattle.rewriting.specs.Visit.{Result, visit, visit_one, work, since, own, inside, entering, dead_class, class_if, live_class_if, undecorated_if}
+use Rattle.rewriting.specs.declared.Around.{Around}
+use Rattle.rewriting.specs.declared.State.{State}
 use Rattle.inspect.specs.Row.{any_row, count_none, or_left, or_right, not_true}
 use Rattle.inspect.specs.Class.{count_called}
 use Rattle.walk_laws.specs.Rows.{visit_at, fresh}
@@ -18,7 +22,7 @@ use Rattle.walk_laws.specs.Roles.{role_4}
 use Rattle.walk_laws.specs.Kinds.{class_inside, class_kind, class_row_one, class_kids_lem}
 use Rattle.walk_laws.specs.ClassPlan.{rk, scope, at_end, queue}
 use Rattle.walk_laws.specs.ClassFacts.{ClassFacts, parts, class_label, class_facts, statement_here}
-use Rattle.counter.specs.Contract.{mark_in, Planned}
+use Rattle.counter.specs.Contract.{Planned}
 use Rattle.transform.specs.Plans.{calls_queued}
 
 -- of a class, by its children
@@ -36,7 +40,7 @@ plain_is k b e g = rw (e, sym g)
 -- ---- by the notes
 
 module _ (ws : List ℕ) (whole : Fits (module' ∷ []) (records_at ws 0)) (at : ℕ) (h : at < length ws) (kind : (label_at ws at).kind ≡ 4) where
-  pub class_mark : {notes : List ℕ} → Planned ws notes → mark_in (get_or notes (at + 1) 0) ≡ is_decorated (kids_at ws (at + 1))
+  pub class_mark : {notes : List Note} → Planned ws notes → (get_or notes (at + 1) blank).marked ≡ is_decorated (kids_at ws (at + 1))
   class_mark p = p.classes (at + 1) (class_inside ws whole at h kind) (class_kind ws whole at h kind)
 
 -- ---- what it becomes

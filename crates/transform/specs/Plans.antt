@@ -1,23 +1,27 @@
 -- The plan of a class: what is found from the words, the table of notes and the state behind the class is the definition's. Assumes nothing.
 use Rattle.std.proofs.Math.Path.{◌≡◌, refl, ap, sym, subst}
-use Rattle.std.proofs.Common.{◌∙◌, add-one}
+use Rattle.records.specs.Ends.{blank}
+use Rattle.records.specs.declared.Note.{Note}
+use Rattle.std.proofs.Common.{◌∙◌, add-one, true≢false}
 use Rattle.std.proofs.Math.Bool.{Bool, true, false, cond}
-use Rattle.std.specs.Prelude.{◌&&◌, List, [], ◌∷◌, length, get_or, replicate}
-use Rattle.std.proofs.Math.Option.{Option, none, some}
-use Prim.Native.Nat.{ℕ, zero, suc, ◌+◌, ◌*◌, ◌/◌, ◌%◌, ◌<◌, ◌≤◌}
+use Rattle.std.specs.Prelude.{◌&&◌, List, [], ◌∷◌, length, get_or, replicate, is_some}
+use Rattle.std.specs.Option.{option_or}
+use Rattle.std.specs.declared.option.Option.{Option}
+use Rattle.std.specs.declared.option.Option.TheVariants.{None as none, Some as some}
+use Prim.Native.Nat.{ℕ, zero, suc, ◌+◌, ◌<◌, ◌≤◌}
 use native.Mathlib.Omega.{arith}
-use Rattle.std.proofs.Math.Dec.{eqb}
-use borrow.Author.Tests.{eqb-true, eqb-false, ne_eqb}
-use Rattle.records.specs.Forest.{end, node, size, take_f, drop_f, count_f, count_f_append, count_size, size_take_drop}
+use Rattle.records.specs.Forest.{end, node, take_f, drop_f, count_f, count_f_append, count_size, size_take_drop}
 use Rattle.records.specs.Label.{Label, Trees, ◌∶◌}
 use Rattle.records.specs.Place.{records_at, label_at, arity_at, kids_at, end_of, records_first, size_records, kids_past}
 use Rattle.grammar.specs.Grammar.{element, module'}
 use Rattle.grammar.specs.WellFormed.{Allowed, Fits}
 use Rattle.rewriting.specs.Parts.{Role, module' as module_role, list, statement, expression, method, constructor, plain, field, role_of, decorators, decorators_of, bare_method, bare_field, is_decorated_member, has_plain_key, elements_of, id_of, has_private_in, has_static, is_decorated, is_live}
-use Rattle.rewriting.specs.Visit.{Around, State, Result, Taken, class_symbol, name_if, name_of, called₁, called₂, member_if, member, kept, dead_class, own, since, work, inside, entering, join, ◌then◌, visit, visit_one}
+use Rattle.rewriting.specs.Visit.{Result, Taken, class_symbol, name_if, name_of, called₁, called₂, member_if, member, kept, dead_class, own, since, work, inside, entering, join, ◌then◌, visit, visit_one}
+use Rattle.rewriting.specs.declared.Around.{Around}
+use Rattle.rewriting.specs.declared.State.{State}
 use Rattle.rewriting.proofs.Facts.{counter}
 use Rattle.inspect.specs.Row.{Test, count_row, count_none}
-use Rattle.inspect.specs.Child.{opt_of, opt_is, opt_no, opt_some, opt_none, kids_row}
+use Rattle.inspect.specs.Child.{kids_row}
 use Rattle.inspect.specs.Class.{count_called}
 use Rattle.walk_laws.specs.Rows.{visit_at, fresh, row_none}
 use Rattle.walk_laws.specs.After.{mentioned}
@@ -26,15 +30,14 @@ use Rattle.walk_laws.specs.Kinds.{class_kind}
 use Rattle.walk_laws.specs.Default.{class_default}
 use Rattle.walk_laws.specs.First.{elements_row}
 use Rattle.walk_laws.specs.Calls.{symbol_of, call_none, call_count, calls_more}
-use Rattle.walk_laws.specs.ClassPlan.{Plan, either, decorated_plan, plan_of, rk, scope, body_at, at_body, at_end, els, queue, plan}
+use Rattle.walk_laws.specs.ClassPlan.{Plan, decorated_plan, plan_of, rk, scope, body_at, at_body, at_end, els, queue, plan}
 use Rattle.walk_laws.specs.ClassFacts.{body_in, body_kind, own_elements, elements_visited}
-use Rattle.counter.specs.Contract.{around_of, state_of, mark_in, unlive, Below, elements_from, Planned, Ready, Counts, Annotated, has_default, class_count}
+use Rattle.counter.specs.Contract.{unlive, Below, elements_from, Planned, Ready, Counts, Annotated, class_count}
 use Rattle.counter.specs.Steps.{below_more, counts_high, counts_within, count_live}
 use Rattle.counter.specs.Totals.{note_at, ready_free, class_symbols}
-use Rattle.counter.specs.declared.Scope.{Scope}
-use Rattle.counter.specs.declared.Count.{Count}
 use Rattle.counter.specs.declared.Counted.{Counted}
-use Rattle.transform.specs.ClassWords.{PlanFrom, Plans}
+use Rattle.transform.specs.Contract.{begun}
+use Rattle.transform.specs.ClassWords.{Small, SymbolsOf, PlanFrom, Plans}
 use Rattle.transform.specs.declared.ClassPlan.{ClassPlan}
 
 -- ---- rule 4: the default symbol is below the counter
@@ -96,130 +99,78 @@ default_below (node l k r) around s b =
     let below : Below a.after.next a.after.default = default_below k (inside (role_of l) around k) (entering (role_of l) s) (entering_below (role_of l) s b) in
     default_below r around o.after (own_below (role_of l) around l k s a low b below)
 
--- ---- symbols by their numbers
-
-unfoldable number_of : Option ℕ → ℕ
-number_of none = 67108864
-number_of (some c) = c
-
-number_of_lem : (n : ℕ) → number_of (opt_of n) ≡ n
-unfolding opt_of number_of
-number_of_lem n = go (eqb n 67108864) refl
-  where
-    go : (x : Bool) → eqb n 67108864 ≡ x → number_of (cond x none (some n)) ≡ n
-    go true e = sym (eqb-true n 67108864 e)
-    go false e = refl
-
-opt_same : (m n : ℕ) → opt_of m ≡ opt_of n → m ≡ n
-opt_same m n e = sym (number_of_lem m) ∙ ap number_of e ∙ number_of_lem n
-
-below_le : (m : ℕ) (o : Option ℕ) → m ≤ 67108864 → Below m o → number_of o ≤ 67108864
-unfolding Below number_of
-below_le m none h b = omega arith
-below_le m (some c) h b = omega arith
-
-opt_number : (m : ℕ) (o : Option ℕ) → m ≤ 67108864 → Below m o → opt_of (number_of o) ≡ o
-unfolding Below number_of
-opt_number m none h b = opt_none
-opt_number m (some c) h b = opt_some c (omega arith)
-
 -- a default symbol that was counted
-pub counts_default : {ws : List ℕ} {at k : ℕ} {a : Scope} {n d : ℕ} {r : Counted} → Counts ws at k a n d r → Below n (opt_of d) → Below r.next (opt_of r.default)
-counts_default {ws} {at} {k} {a} {n} {d} {r} c b =
-    let g : Below (visit_at ws at k (around_of a) (state_of n d)).after.next (visit_at ws at k (around_of a) (state_of n d)).after.default =
-    unfold visit_at in default_below (take_f k (records_at ws at)) (around_of a) (state_of n d) (unfold state_of in b) in
-    unfold state_of in subst (λ (t : State). Below t.next t.default) c.state g
+pub counts_default : {ws : List ℕ} {at k : ℕ} {a : Around} {s : State} {r : Counted} → Counts ws at k a s r → Below s.next s.default → Below r.state.next r.state.default
+counts_default {ws} {at} {k} {a} {s} c b =
+    subst (λ (t : State). Below t.next t.default) c.state (unfold visit_at in default_below (take_f k (records_at ws at)) a s b)
+
+below_small : (m : ℕ) (o : Option ℕ) → m ≤ 67108864 → Below m o → Small o
+unfolding Below
+below_small m none h b = tt
+below_small m (some c) h b = omega arith
 
 -- ---- a plan as it is found
 
--- its symbols. m: whether rule 6's search finds its symbol; n, d: the state behind its children
-pub record FoundSymbols (m : Bool) (n d : ℕ) (g : ClassPlan) : Type 0 where
-  pub outer : g.decorated ≡ true → g.outer ≡ (plan_of true (opt_of g.id) (state_of n d) m).outer
-  pub inner : opt_of g.inner ≡ (plan_of g.decorated (opt_of g.id) (state_of n d) m).inner
-  pub alias : opt_of g.alias ≡ (plan_of g.decorated (opt_of g.id) (state_of n d) m).alias
-  pub sizes : (g.id ≤ 67108864) × (g.inner ≤ 67108864) × (g.alias ≤ 67108864) × (g.decorated ≡ true → g.outer < 67108864)
+or_small : (o d : Option ℕ) → Small o → Small d → Small (option_or o d)
+or_small none d h g = g
+or_small (some c) d h g = h
 
-module _ (m : Bool) (n d : ℕ) (g : ClassPlan) (room : n + 1 < 67108864) (few : d ≤ 67108864) (known : g.id ≤ 67108864) where
-  -- a decorated class without id
-  nameless_plan : g.id ≡ 67108864 → plan_of true (opt_of g.id) (state_of n d) m ≡ record { outer = symbol_of (opt_of d) (some n); inner = none; alias = none }
-  unfolding plan_of decorated_plan state_of
-  nameless_plan e = rw (opt_no g.id e)
+-- its symbols. s: the state behind its children; m: whether rule 6's search finds its symbol
+module _ (s : State) (m : Bool) (room : s.next + 1 < 67108864) (few : Small s.default) {g : ClassPlan} (known : Small g.id) where
+  -- of a class that isn't decorated
+  pub found_undecorated : g.outer ≡ none → g.inner ≡ option_or g.id s.default → g.alias ≡ none → SymbolsOf false (plan_of false g.id s m) g
+  unfolding plan_of
+  found_undecorated o i a = record {
+    outer = o;
+    inner = i;
+    alias = a;
+    sizes = (known, subst Small (sym o) tt, subst Small (sym i) (or_small g.id s.default known few), subst Small (sym a) tt);
+  }
 
-  symbol_lt : symbol_of (opt_of d) (some n) < 67108864
-  unfolding symbol_of opt_of
-  symbol_lt = go (eqb d 67108864) refl
-    where
-      go : (x : Bool) → eqb d 67108864 ≡ x → symbol_of (cond x none (some d)) (some n) < 67108864
-      go true e = omega arith
-      go false e = omega (arith, eqb-false d 67108864 e)
-
-  pub found_nameless : g.decorated ≡ true → g.id ≡ 67108864 → g.outer ≡ symbol_of (opt_of d) (opt_of n) → g.inner ≡ 67108864 → g.alias ≡ 67108864 → FoundSymbols m n d g
-  found_nameless e i o j a =
-      let out : g.outer ≡ symbol_of (opt_of d) (some n) = o ∙ ap (symbol_of (opt_of d)) (opt_some n (omega arith)) in
+  -- of a decorated class with an id
+  pub found_named : (c : ℕ) → g.id ≡ some c → g.outer ≡ some c → g.inner ≡ some s.next → g.alias ≡ cond m (some (s.next + 1)) none → SymbolsOf true (plan_of true g.id s m) g
+  found_named c e o i a =
+      let p : plan_of true g.id s m ≡ record { outer = c; inner = some s.next; alias = cond m (some (suc s.next)) none } = unfold plan_of decorated_plan in rw e in
       record {
-        outer = λ _. out ∙ ap (λ (p : Plan). p.outer) (sym (nameless_plan i));
-        inner = opt_no g.inner j ∙ rw e (ap (λ (p : Plan). p.inner) (sym (nameless_plan i)));
-        alias = opt_no g.alias a ∙ rw e (ap (λ (p : Plan). p.alias) (sym (nameless_plan i)));
-        sizes = (known, omega (arith, j), omega (arith, a), λ _. rw out symbol_lt);
+        outer = o ∙ ap (λ (q : Plan). some q.outer) (sym p);
+        inner = i ∙ ap (λ (q : Plan). q.inner) (sym p);
+        alias = a ∙ ap (λ (n : ℕ). cond m (some n) none) (add-one s.next) ∙ ap (λ (q : Plan). q.alias) (sym p);
+        sizes = (known, subst Small (sym o) (subst Small e known), subst Small (sym i) (omega arith), subst Small (sym a) (alias_small m));
       }
-
-  -- one with an id
-  named_plan : (g.id ≡ 67108864 → ⊥) → plan_of true (opt_of g.id) (state_of n d) m ≡ record { outer = g.id; inner = some n; alias = cond m (some (suc n)) none }
-  unfolding plan_of decorated_plan state_of
-  named_plan h = rw (opt_is g.id h)
-
-  alias_plan : cond m (opt_of (n + 1)) (opt_of 67108864) ≡ cond m (some (suc n)) none
-  alias_plan = rw (opt_some (n + 1) room, opt_none, add-one n)
-
-  pub found_named : g.decorated ≡ true → (g.id ≡ 67108864 → ⊥) → g.outer ≡ g.id → g.inner ≡ n → opt_of g.alias ≡ cond m (opt_of (n + 1)) (opt_of 67108864) → g.alias ≤ 67108864 → FoundSymbols m n d g
-  found_named e h o j a l = record {
-    outer = λ _. o ∙ ap (λ (p : Plan). p.outer) (sym (named_plan h));
-    inner = ap opt_of j ∙ opt_some n (omega arith) ∙ rw e (ap (λ (p : Plan). p.inner) (sym (named_plan h)));
-    alias = a ∙ alias_plan ∙ rw e (ap (λ (p : Plan). p.alias) (sym (named_plan h)));
-    sizes = (known, omega (arith, j, room), l, λ _. omega (arith, o, known, h));
-  }
-
-  -- one that isn't decorated
-  either_plan : cond (eqb g.id 67108864) (opt_of d) (opt_of g.id) ≡ either (opt_of g.id) (opt_of d)
-  unfolding either
-  either_plan = go (eqb g.id 67108864) refl
     where
-      go : (x : Bool) → eqb g.id 67108864 ≡ x → cond x (opt_of d) (opt_of g.id) ≡ either (opt_of g.id) (opt_of d)
-      go true e = rw (opt_no g.id (eqb-true g.id 67108864 e))
-      go false e = rw (opt_is g.id (eqb-false g.id 67108864 e))
+      alias_small : (b : Bool) → Small (cond b (some (s.next + 1)) none)
+      alias_small true = room
+      alias_small false = tt
 
-  inner_le : opt_of g.inner ≡ cond (eqb g.id 67108864) (opt_of d) (opt_of g.id) → g.inner ≤ 67108864
-  inner_le j = go (eqb g.id 67108864) j
+  -- of one without
+  pub found_nameless : g.id ≡ none → g.outer ≡ option_or s.default (some s.next) → g.inner ≡ none → g.alias ≡ none → SymbolsOf true (plan_of true g.id s m) g
+  found_nameless e o i a =
+      let p : plan_of true g.id s m ≡ record { outer = symbol_of s.default (some s.next); inner = none; alias = none } = unfold plan_of decorated_plan in rw e in
+      record {
+        outer = o ∙ symbol s.default ∙ ap (λ (q : Plan). some q.outer) (sym p);
+        inner = i ∙ ap (λ (q : Plan). q.inner) (sym p);
+        alias = a ∙ ap (λ (q : Plan). q.alias) (sym p);
+        sizes = (known, subst Small (sym o) (or_small s.default (some s.next) few (omega arith)), subst Small (sym i) tt, subst Small (sym a) tt);
+      }
     where
-      go : (x : Bool) → opt_of g.inner ≡ cond x (opt_of d) (opt_of g.id) → g.inner ≤ 67108864
-      go true e = omega (arith, opt_same g.inner d e, few)
-      go false e = omega (arith, opt_same g.inner g.id e, known)
+      symbol : (d : Option ℕ) → option_or d (some s.next) ≡ some (symbol_of d (some s.next))
+      symbol none = unfold symbol_of in refl
+      symbol (some d) = unfold symbol_of in refl
 
-  pub found_undecorated : g.decorated ≡ false → opt_of g.inner ≡ cond (eqb g.id 67108864) (opt_of d) (opt_of g.id) → g.alias ≡ 67108864 → FoundSymbols m n d g
-  unfolding plan_of state_of
-  found_undecorated e j a = record {
-    outer = λ t. let z : ◌≡◌ {A = ℕ} 0 1 = cc in absurd (omega arith);
-    inner = rw e (j ∙ either_plan);
-    alias = rw e (opt_no g.alias a);
-    sizes = (known, inner_le j, omega (arith, a), λ t. let z : ◌≡◌ {A = ℕ} 0 1 = cc in absurd (omega arith));
-  }
-
--- b: the place of its body; k: the number of elements
-pub plan_from : {ws notes : List ℕ} {at : ℕ} {s : Count} {g : ClassPlan} (b k : ℕ) → kids_at ws b ≡ elements_of (kids_at ws (at + 1)) → k ≡ arity_at ws b →
-    opt_of g.id ≡ id_of (kids_at ws (at + 1)) → g.decorated ≡ is_decorated (kids_at ws (at + 1)) → g.private ≡ has_private_in (kids_at ws (at + 1)) →
+-- b: the place of its body; k: the number of elements; x: whether it is decorated
+pub plan_from : {ws : List ℕ} {notes : List Note} {at : ℕ} {s : State} {g : ClassPlan} (b k : ℕ) (x : Bool) → kids_at ws b ≡ elements_of (kids_at ws (at + 1)) → k ≡ arity_at ws b →
+    g.id ≡ id_of (kids_at ws (at + 1)) → x ≡ is_decorated (kids_at ws (at + 1)) → g.private ≡ has_private_in (kids_at ws (at + 1)) →
     g.fixed ≡ has_static (take_f k (records_at ws (b + 1))) → (g.private ≡ true → g.calls ≡ count_called (kids_at ws b)) →
-    FoundSymbols (mark_in (get_or notes at 0)) s.next s.default g → PlanFrom ws notes at s g
-plan_from {ws} b k e l i d p x c f = record {
-  id = i;
-  decorated = d;
-  private = p;
-  fixed = x ∙ ap has_static (kids_row ws b k l ∙ e);
-  calls = λ t. c t ∙ ap count_called e;
-  outer = f.outer;
-  inner = f.inner;
-  alias = f.alias;
-  sizes = f.sizes;
-}
+    SymbolsOf x (plan_of x g.id s (get_or notes at blank).marked) g → PlanFrom ws notes at s g
+plan_from {ws} {notes} {at} {s} {g} b k x e l i d p y c f =
+    let m : Bool = (get_or notes at blank).marked in
+    record {
+      id = i;
+      private = p;
+      fixed = y ∙ ap has_static (kids_row ws b k l ∙ e);
+      calls = λ t. c t ∙ ap count_called e;
+      symbols = subst (λ (z : Bool). SymbolsOf z (plan_of z (id_of (kids_at ws (at + 1))) s m) g) d (subst (λ (o : Option ℕ). SymbolsOf x (plan_of x o s m) g) i f);
+    }
 
 -- ---- the calls of a class are those of its decorated members
 
@@ -238,9 +189,9 @@ called_few ws at k =
     omega (arith, count_le is_decorated_member (take_f k (records_at ws at)), count_size (take_f k (records_at ws at)), size_take_drop k (records_at ws at), size_records ws at)
 
 -- in a body without a mark, and past the end
-pub called_unmarked : {ws notes : List ℕ} (b : ℕ) → Planned ws notes → b < length ws → (label_at ws b).kind ≡ 29 → get_or notes b 0 % 2 ≡ 0 → 0 ≡ count_called (kids_at ws b)
+pub called_unmarked : {ws : List ℕ} {notes : List Note} (b : ℕ) → Planned ws notes → b < length ws → (label_at ws b).kind ≡ 29 → (get_or notes b blank).marked ≡ false → 0 ≡ count_called (kids_at ws b)
 unfolding count_called
-called_unmarked {ws} {notes} b p h kind e = sym (count_none is_decorated_member (kids_at ws b) (sym (p.bodies b h kind) ∙ ne_eqb (get_or notes b 0 % 2) 1 (omega arith)))
+called_unmarked {ws} {notes} b p h kind e = sym (count_none is_decorated_member (kids_at ws b) (sym (p.bodies b h kind) ∙ e))
 
 pub called_past : (ws : List ℕ) (b : ℕ) → length ws ≤ b → 0 ≡ count_called (kids_at ws b)
 unfolding count_called count_row
@@ -303,130 +254,87 @@ plan_search true id t m k e = ap (plan_of true id t) (e refl)
 plan_search false id t m k e = unfold plan_of in refl
 
 -- the class visited, by its id
-class_visit : (ws : List ℕ) (at n id : ℕ) → opt_of id ≡ id_of (kids_at ws (at + 1)) →
-    (visit_at ws (at + 1) 1 (around_of (record { live = true; id = id })) (state_of n 67108864)).after ≡ at_end ws at n
-unfolding at_end
-class_visit ws at n id known =
-    let s : state_of n 67108864 ≡ fresh n = unfold state_of fresh in ap (λ (o : Option ℕ). record { next = n; default = o }) opt_none in
-    let w : around_of (record { live = true; id = id }) ≡ scope ws at = unfold around_of scope rk in ap (λ (o : Option ℕ). record { live = true; id = o }) known in
-    cc (s, w)
+class_visit : (ws : List ℕ) (at n : ℕ) (id : Option ℕ) → id ≡ id_of (kids_at ws (at + 1)) → (visit_at ws (at + 1) 1 (record { live = true; id = id }) (begun n)).after ≡ at_end ws at n
+unfolding at_end fresh scope rk
+class_visit ws at n id known = ap (λ (o : Option ℕ). (visit_at ws (at + 1) 1 (record { live = true; id = o }) (begun n)).after) known
 
-module _ {ws notes : List ℕ} {at n : ℕ} (f : Ready ws notes at n) (h : at < length ws) (kind : (label_at ws at).kind ≡ 4) (live : is_live (take_f 1 (records_at ws (at + 1))) ≡ true)
-    (id : ℕ) (known : opt_of id ≡ id_of (kids_at ws (at + 1))) {r : Counted} (c : Counts ws (at + 1) 1 (record { live = true; id = id }) n 67108864 r) where
+module _ {ws : List ℕ} {notes : List Note} {at n : ℕ} (f : Ready ws notes at n) (h : at < length ws) (kind : (label_at ws at).kind ≡ 4) (live : is_live (take_f 1 (records_at ws (at + 1))) ≡ true)
+    (id : Option ℕ) (known : id ≡ id_of (kids_at ws (at + 1))) {r : Counted} (c : Counts ws (at + 1) 1 (record { live = true; id = id }) (begun n) r) where
   -- the state behind the class's children
-  end_state : at_end ws at n ≡ state_of r.next r.default
+  end_state : at_end ws at n ≡ r.state
   end_state = sym (class_visit ws at n id known) ∙ c.state
 
-  pub plan_next : r.next + 1 < 67108864
+  pub plan_next : r.state.next + 1 < 67108864
   plan_next = omega (arith, counts_high c, counts_within c (omega arith), f.room)
 
-  pub plan_default : r.default ≤ 67108864
-  plan_default =
-      let b : Below r.next (opt_of r.default) = counts_default c (unfold Below in rw opt_none tt) in
-      subst (λ (m : ℕ). m ≤ 67108864) (number_of_lem r.default) (below_le r.next (opt_of r.default) (omega (arith, plan_next)) b)
+  pub plan_default : Small r.state.default
+  plan_default = below_small r.state.next r.state.default (omega (arith, plan_next)) (counts_default c (unfold Below in tt))
 
   -- the table has rule 6's search
-  search : is_decorated (rk ws at) ≡ true → mark_in (get_or notes at 0) ≡ mentioned (id_of (rk ws at)) (els ws at n)
+  search : is_decorated (rk ws at) ≡ true → (get_or notes at blank).marked ≡ mentioned (id_of (rk ws at)) (els ws at n)
   unfolding rk
   search e =
       f.planned.right at n h kind live e (f.ids (at + 1) (class_kind ws f.whole at h kind))
       ∙ ap (mentioned (id_of (kids_at ws (at + 1)))) (elements_from_lem ws f.whole at h kind n)
 
-  module _ {g : ClassPlan} (p : PlanFrom ws notes at (record { next = r.next; default = r.default }) g) where
-    planned : plan_of g.decorated (opt_of g.id) (state_of r.next r.default) (mark_in (get_or notes at 0)) ≡ plan ws at n
-    unfolding plan
-    planned =
-        let ids : opt_of g.id ≡ id_of (rk ws at) = unfold rk in p.id in
-        let dec : g.decorated ≡ is_decorated (rk ws at) = unfold rk in p.decorated in
-        cc (ids, dec, sym end_state) ∙ plan_search (is_decorated (rk ws at)) (id_of (rk ws at)) (at_end ws at n) (mark_in (get_or notes at 0)) (mentioned (id_of (rk ws at)) (els ws at n)) search
+  planned : plan_of (is_decorated (rk ws at)) (id_of (rk ws at)) r.state (get_or notes at blank).marked ≡ plan ws at n
+  unfolding plan
+  planned =
+      ap (λ (t : State). plan_of (is_decorated (rk ws at)) (id_of (rk ws at)) t (get_or notes at blank).marked) (sym end_state)
+      ∙ plan_search (is_decorated (rk ws at)) (id_of (rk ws at)) (at_end ws at n) (get_or notes at blank).marked (mentioned (id_of (rk ws at)) (els ws at n)) search
 
-    queued : count_called (elements_of (kids_at ws (at + 1))) ≡ count_f (queue ws at n)
-    queued = unfold rk in calls_queued ws f.whole at h kind n
-
-    pub plans : Plans ws at n g
-    plans = record {
-      id = unfold rk in p.id;
-      decorated = unfold rk in p.decorated;
-      private = unfold rk in p.private;
-      fixed = unfold rk in p.fixed;
-      calls = λ t. p.calls t ∙ queued;
-      outer = λ e. p.outer e ∙ ap (λ (b : Bool). (plan_of b (opt_of g.id) (state_of r.next r.default) (mark_in (get_or notes at 0))).outer) (sym e) ∙ ap (λ (x : Plan). x.outer) planned;
-      inner = p.inner ∙ ap (λ (x : Plan). x.inner) planned;
-      alias = p.alias ∙ ap (λ (x : Plan). x.alias) planned;
-      sizes = p.sizes;
-    }
+  pub plans : {g : ClassPlan} → PlanFrom ws notes at r.state g → Plans ws at n g
+  plans {g} p = record {
+    id = unfold rk in p.id;
+    private = unfold rk in p.private;
+    fixed = unfold rk in p.fixed;
+    calls = λ t. p.calls t ∙ (unfold rk in calls_queued ws f.whole at h kind n);
+    symbols = subst (λ (q : Plan). SymbolsOf (is_decorated (rk ws at)) q g) planned (unfold rk in p.symbols);
+  }
 
 -- ---- a class with an id: neither its plan nor rule 6's symbols depend on its default symbol
 
-plan_named : (x : Bool) (i n d e : ℕ) (m : Bool) → (i ≡ 67108864 → ⊥) → plan_of x (opt_of i) (state_of n d) m ≡ plan_of x (opt_of i) (state_of n e) m
-unfolding plan_of decorated_plan state_of either symbol_of
-plan_named true i n d e m h = rw (opt_is i h)
-plan_named false i n d e m h = rw (opt_is i h)
+plan_named : (x : Bool) (id : Option ℕ) (s t : State) (m : Bool) → is_some id ≡ true → s.next ≡ t.next → plan_of x id s m ≡ plan_of x id t m
+unfolding plan_of decorated_plan symbol_of
+plan_named x none s t m h e = absurd (true≢false (sym h))
+plan_named true (some c) s t m h e = rw e
+plan_named false (some c) s t m h e = refl
 
-count_named : (x : Bool) (i : ℕ) (m a b : Bool) → (i ≡ 67108864 → ⊥) → class_count x (opt_of i) m a ≡ class_count x (opt_of i) m b
+count_named : (x : Bool) (id : Option ℕ) (m a b : Bool) → is_some id ≡ true → class_count x id m a ≡ class_count x id m b
 unfolding class_count
-count_named true i true a b h = rw (opt_is i h)
-count_named true i false a b h = rw (opt_is i h)
-count_named false i m a b h = refl
+count_named x none m a b h = absurd (true≢false (sym h))
+count_named true (some c) true a b h = refl
+count_named true (some c) false a b h = refl
+count_named false (some c) m a b h = refl
 
-next_same : (i j d e : ℕ) → state_of i d ≡ state_of j e → i ≡ j
-unfolding state_of
-next_same i j d e g = ap (λ (s : State). s.next) g
-
-from_named : {ws notes : List ℕ} {at n d : ℕ} {g : ClassPlan} (e : ℕ) → (g.id ≡ 67108864 → ⊥) → PlanFrom ws notes at (record { next = n; default = d }) g → PlanFrom ws notes at (record { next = n; default = e }) g
-from_named {ws} {notes} {at} {n} {d} {g} e h p =
-    let same : (x : Bool) → plan_of x (opt_of g.id) (state_of n d) (mark_in (get_or notes at 0)) ≡ plan_of x (opt_of g.id) (state_of n e) (mark_in (get_or notes at 0)) =
-    λ x. plan_named x g.id n d e (mark_in (get_or notes at 0)) h in
-    record {
-      id = p.id;
-      decorated = p.decorated;
-      private = p.private;
-      fixed = p.fixed;
-      calls = p.calls;
-      outer = λ t. p.outer t ∙ ap (λ (y : Plan). y.outer) (same true);
-      inner = p.inner ∙ ap (λ (y : Plan). y.inner) (same g.decorated);
-      alias = p.alias ∙ ap (λ (y : Plan). y.alias) (same g.decorated);
-      sizes = p.sizes;
-    }
-
-module _ {ws notes : List ℕ} {at n : ℕ} (f : Ready ws notes at n) (h : at < length ws) (kind : (label_at ws at).kind ≡ 4) (live : is_live (take_f 1 (records_at ws (at + 1))) ≡ true)
-    (id : ℕ) (known : opt_of id ≡ id_of (kids_at ws (at + 1))) (some_id : id ≡ 67108864 → ⊥) where
-  -- the class, counted: the state behind its children by its numbers
-  behind : Counted
-  behind = record { at = end_of ws (at + 1) 1; next = (at_end ws at n).next; default = number_of (at_end ws at n).default }
-
-  end_numbers : at_end ws at n ≡ state_of (at_end ws at n).next (number_of (at_end ws at n).default)
-  unfolding at_end visit_at state_of
-  end_numbers =
-      let t : State = (visit (scope ws at) (take_f 1 (records_at ws (at + 1))) (fresh n)).after in
-      let few : t.next ≤ n + 2 * size (take_f 1 (records_at ws (at + 1))) = unfold fresh in (counter (take_f 1 (records_at ws (at + 1))) (scope ws at) (fresh n)).high in
-      let low : Below t.next t.default = default_below (take_f 1 (records_at ws (at + 1))) (scope ws at) (fresh n) (unfold fresh Below in tt) in
-      let room : t.next ≤ 67108864 = omega (arith, few, size_take_drop 1 (records_at ws (at + 1)), size_records ws (at + 1), f.room) in
-      ap (λ (o : Option ℕ). record { next = t.next; default = o }) (sym (opt_number t.next t.default room low))
-
-  visited : Counts ws (at + 1) 1 (record { live = true; id = id }) n 67108864 behind
-  unfolding behind
-  visited = record { place = refl; state = class_visit ws at n id known ∙ end_numbers }
+module _ {ws : List ℕ} {notes : List Note} {at n : ℕ} (f : Ready ws notes at n) (h : at < length ws) (kind : (label_at ws at).kind ≡ 4) (live : is_live (take_f 1 (records_at ws (at + 1))) ≡ true)
+    (id : Option ℕ) (known : id ≡ id_of (kids_at ws (at + 1))) (named : is_some id ≡ true) where
+  -- the class, counted
+  visited : Counts ws (at + 1) 1 (record { live = true; id = id }) (begun n) (record { at = end_of ws (at + 1) 1; state = at_end ws at n })
+  visited = record { place = refl; state = class_visit ws at n id known }
 
   pub named_room : (at_end ws at n).next + 1 < 67108864
-  unfolding behind
   named_room = plan_next f h kind live id known visited
 
   -- the statement's symbols are its class's, then rule 6's
   pub named_symbols_lem : Annotated ws notes at →
-      n + get_or notes at 0 / 4 % 16384 ≡ (at_end ws at n).next + class_count (is_decorated (kids_at ws (at + 1))) (opt_of id) (mark_in (get_or notes at 0)) (has_default 67108864)
-  unfolding behind
+      n + (get_or notes at blank).count ≡ (at_end ws at n).next + class_count (is_decorated (kids_at ws (at + 1))) id (get_or notes at blank).marked false
+  unfolding fresh
   named_symbols_lem noted =
       let x : Bool = is_decorated (kids_at ws (at + 1)) in
-      let m : Bool = mark_in (get_or notes at 0) in
-      let e : ℕ = number_of (at_end ws at n).default in
-      let counted : Counts ws at 1 unlive n 67108864 (record { at = end_of ws (at + 1) 1; next = (at_end ws at n).next + class_count x (opt_of id) m (has_default e); default = 67108864 }) =
-      count_live f h unlive 67108864 kind (record { live = true; id = id }) _ refl known live visited (class_symbols x (opt_of id) m (at_end ws at n).next e _ refl) in
-      let said = (note_at ws notes at noted h).count unlive n 67108864 refl (ready_free f) in
-      next_same _ _ _ _ (sym said.state ∙ counted.state) ∙ ap ((at_end ws at n).next +◌) (count_named x id m (has_default e) (has_default 67108864) some_id)
+      let m : Bool = (get_or notes at blank).marked in
+      let counted = count_live f h unlive none kind (record { live = true; id = id }) _ refl known live visited (class_symbols x id m (at_end ws at n) _ refl) in
+      let said = (note_at ws notes at noted h).count unlive (begun n) refl (ready_free f) in
+      ap (λ (t : State). t.next) (sym said.state ∙ counted.state) ∙ ap ((at_end ws at n).next +◌) (count_named x id m (is_some (at_end ws at n).default) false named)
 
-  pub plans_named : {g : ClassPlan} → PlanFrom ws notes at (record { next = (at_end ws at n).next; default = 67108864 }) g → Plans ws at n g
-  unfolding behind
-  plans_named {g} p =
-      let same : g.id ≡ id = opt_same g.id id (p.id ∙ sym known) in
-      plans f h kind live id known visited (from_named (number_of (at_end ws at n).default) (λ e. some_id (sym same ∙ e)) p)
+  -- the state behind its children, without the default symbol
+  pub plans_named : {s : State} {g : ClassPlan} → s.next ≡ (at_end ws at n).next → PlanFrom ws notes at s g → Plans ws at n g
+  plans_named {s} {g} e p =
+      plans f h kind live id known visited record {
+        id = p.id;
+        private = p.private;
+        fixed = p.fixed;
+        calls = p.calls;
+        symbols = subst (λ (q : Plan). SymbolsOf (is_decorated (kids_at ws (at + 1))) q g)
+            (plan_named (is_decorated (kids_at ws (at + 1))) (id_of (kids_at ws (at + 1))) s (at_end ws at n) (get_or notes at blank).marked (ap is_some (sym known) ∙ named) e) p.symbols;
+      }

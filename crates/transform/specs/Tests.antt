@@ -1,8 +1,10 @@
 -- Rule 9 where no word is a private-in test: no class has one in a decorator. Assumes nothing.
 use Rattle.std.specs.Prelude.{◌≡◌, Bool, true, false, ◌||◌, cond, List, get_or}
+use Rattle.records.specs.Ends.{blank}
+use Rattle.records.specs.declared.Note.{Note}
 use Rattle.std.proofs.Math.Path.{refl}
-use Rattle.std.proofs.Common.{sym, ◌∙◌, arith, ne_eqb}
-use Prim.Native.Nat.{ℕ, zero, suc, ◌+◌, ◌%◌}
+use Rattle.std.proofs.Common.{sym, ◌∙◌, ne_eqb}
+use Prim.Native.Nat.{ℕ, zero, suc, ◌+◌}
 use Rattle.records.specs.Forest.{end, node, any_f, any_f_append}
 use Rattle.records.specs.Label.{Label, Trees, is}
 use Rattle.records.specs.Place.{label_at, arity_at, kids_at}
@@ -82,5 +84,5 @@ module _ (ws : List ℕ) (none : (i : ℕ) → (label_at ws i).kind ≡ 19 → �
   private_nowhere at = private_none _ (any_words ws (is 19) (at + 1) (arity_at ws at) ∙ words_none _ (at + 1))
 
 -- the mark of place 1 says that there is no such test
-pub private_unmarked : {ws notes : List ℕ} (at : ℕ) → Planned ws notes → get_or notes 1 0 % 2 ≡ 0 → false ≡ has_private_in (kids_at ws at)
-private_unmarked {ws} {notes} at p e = sym (private_nowhere ws (λ i k. p.tests (ne_eqb (get_or notes 1 0 % 2) 1 (omega arith)) i (kind_within ws i 18 k) k) at)
+pub private_unmarked : {ws : List ℕ} {notes : List Note} (at : ℕ) → Planned ws notes → (get_or notes 1 blank).marked ≡ false → false ≡ has_private_in (kids_at ws at)
+private_unmarked {ws} {notes} at p e = sym (private_nowhere ws (λ i k. p.tests e i (kind_within ws i 18 k) k) at)

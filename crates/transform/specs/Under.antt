@@ -1,7 +1,7 @@
 -- The word of a kind and payload under the classes around (rule 6), as the walkers write it. Assumes nothing.
 use Rattle.std.specs.Prelude.{◌≡◌, refl, Bool, true, false, ◌&&◌, ◌||◌, cond, List, [], ◌∷◌, map, ℕ, eqb}
 use Rattle.std.proofs.Common.{ap, sym}
-use Rattle.std.proofs.Math.Option.{some}
+use Rattle.std.specs.declared.option.Option.TheVariants.{Some as some}
 use Rattle.records.specs.Forest.{flat}
 use Rattle.records.specs.Label.{Label, Trees, repay, is, word_at, ◌∶◌}
 use Rattle.rewriting.specs.Visit.{is_ref, to_alias}

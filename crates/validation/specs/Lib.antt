@@ -1,4 +1,3 @@
-pub mod Verdict
-pub mod Walked
+pub mod Sets
+pub mod Waiting
 pub mod Walks
-pub mod Whole

@@ -1,43 +1,111 @@
 // Validation: refusals 1 to 6 of a module's words. Reads the words, writes nothing.
 #![tactic(auto)]
 
-ghost use Rattle.std.specs.Prelude.{◌≡◌, [], ◌∷◌, ◌++◌, length, ◌+◌, ◌-◌, ◌*◌, ◌/◌, ◌%◌, ◌<◌, ◌≤◌};
+ghost use Rattle.std.specs.Prelude.{◌≡◌, ◌≢◌, ◌+◌, ◌-◌, ◌*◌, ◌<◌, ◌≤◌, ◌↔◌, true, [], ◌∷◌, ◌++◌, length, IsTrue, IsNone, IfSome, MatchOption};
 ghost use Rattle.words.specs.Word.{kind_of, payload_of};
 ghost use Rattle.grammar.specs.Limits.{max_depth};
-ghost use Rattle.grammar.specs.Grammar.{◌of◌, row_of, module', id, expression, body, key, method_parameters, code};
-ghost use Rattle.grammar.specs.Scan.{place, places, symbols_of, refusal};
-ghost use Rattle.validation.specs.Verdict.{number_of};
-ghost use Rattle.validation.specs.Walked.{Walked, Scanned, Apart, Fields, Entry, Room, run, Good, ahead, waiting, Stacked};
+ghost use Rattle.words.specs.Shape.{bit_of};
+ghost use Rattle.grammar.specs.Grammar.{row_of, allowed, class_under, method_decorators, parameter_of, parameter_decorators, Parameters, Parameter};
+ghost use Rattle.grammar.specs.Slots.{slot_of};
+ghost use Rattle.grammar.specs.Refusals.{code_of};
+ghost use Rattle.grammar.specs.Scan.{top, places, judge, symbols_of, refusal};
+ghost use Rattle.validation.specs.Sets.{leaves};
+ghost use Rattle.validation.specs.Waiting.{waiting};
 
-#[derive(Clone, Copy)]
-pub enum Verdict {
-    Accepted,
-    // No words, or too many.
-    BadLength,
-    // A word that may not stand where it does, an early end, or words left over.
-    Malformed,
-    TooDeep,
-    UnknownSymbol,
-    TooManySymbols,
-    DecoratedConstructor,
-}
+use grammar::{Refusal, Slot};
+use std::marker::Model;
 
-// A walk's answer: the refusal that it met, or 0 and the place behind what it walked.
-#[derive(Clone, Copy)]
-pub struct Step {
-    pub fault: u32,
-    pub next: usize,
-}
-
-// A run of places that wait for records: so many of one category, context and depth, above the stack's entries below `top`. `left` is the number of
-// levels that are left, the places' own counted: it falls from a record to its children.
+// A run of places that wait for records: so many of one slot. `left` is the number of levels that are left, the places' own counted: it falls from a record
+// to its children. It is a byte, so that a run is eight and a stack is cleared sooner (speed).
 #[derive(Clone, Copy)]
 pub struct Run {
-    pub category: u8,
-    pub context: u32,
-    pub left: u32,
-    pub count: u64,
-    pub top: usize,
+    pub slot: Slot,
+    pub left: u8,
+    pub count: u32,
+}
+
+impl Run {
+    fn new(slot: Slot, left: u8, count: u32) -> Run
+        ensures { result ≡ record { slot = slot; left = left; count = count } }
+    {
+        Run { slot, left, count }
+    }
+}
+
+// The runs that wait behind the one that is read, the next one on top. A level takes four of them or fewer.
+#[derive(Drop)]
+struct Stack<const N: usize> {
+    runs: [Run; N],
+    len: usize,
+}
+
+// Clauses see the runs, the top first.
+impl<const N: usize> Model for Stack<N> {
+    ghost use Rattle.std.specs.Prelude.{List, ◌≤◌};
+    ghost use Rattle.validation.specs.declared.Run.{Run};
+
+    ghost Value = { List Run };
+
+    ghost use Rattle.validation.specs.Waiting.{stacked, Roomy};
+
+    ghost view = { λ s. stacked s.len s.runs };
+
+    ghost invariant = { λ s. (s.len ≤ N) × (N ≤ 256) × Roomy (stacked s.len s.runs) };
+}
+
+impl<const N: usize> Stack<N> {
+    fn new() -> Self
+        requires { N ≤ 256 }
+        ensures { result ≡ [] }
+    {
+        Stack {
+            runs: [Run::new(Slot::Module, 0, 0); N],
+            len: 0,
+        }
+    }
+
+    // Is there room for a record's runs.
+    fn has_room(&self) -> bool
+        ensures { IsTrue result ↔ (length self.now + 4 ≤ N) }
+    {
+        let runs = &self.runs;
+        self.len + 4 <= runs.len()
+    }
+
+    // The run on top, unless it has no place.
+    fn push(&mut self, run: Run)
+        requires room { length self.old < N }
+        requires levels { length self.old + 4 * run.left ≤ 256 }
+        ensures places { waiting self.new ≡ waiting (run ∷ self.old) }
+        ensures few { length self.new ≤ length self.old + 1 }
+    {
+        if run.count != 0 {
+            // Read once: behind the write to the array `self.len` would be read again (speed).
+            let len = self.len;
+            self.runs[len] = run;
+            self.len = len + 1;
+        }
+    }
+
+    // The run that has the next place: the given one, or that on top.
+    fn next(&mut self, run: Run) -> Option<Run>
+        requires { length self.old + 4 * run.left ≤ 256 }
+        ensures none { IsNone result → waiting (run ∷ self.old) ≡ [] }
+        ensures some { IfSome result (λ r. r.count ≢ 0) }
+        ensures places { IfSome result (λ r. waiting (r ∷ self.new) ≡ waiting (run ∷ self.old)) }
+        ensures levels { IfSome result (λ r. length self.new + 4 * r.left ≤ 256) }
+    {
+        if run.count != 0 {
+            return Some(run);
+        }
+        if self.len == 0 {
+            return None;
+        }
+        self.len -= 1;
+        // Field by field: a copy in one piece would wait for the stores of a run that was just pushed (speed).
+        let top = &self.runs[self.len];
+        Some(Run::new(top.slot, top.left, top.count))
+    }
 }
 
 // Sets of kinds, bit k for the kind k: those without children, and those whose children are expressions only.
@@ -68,351 +136,169 @@ const PLAIN_KINDS: u64 = 1 << 2
     | 1 << 25
     | 1 << 28;
 
-// The other runs that wait stand on a stack, the next one on top. A level takes four entries or fewer.
-const ROOM: usize = 256;
-
-// The fault of no module: the lent stack is too short.
-const NO_ROOM: u32 = 7;
-
-// An entry of the stack.
-fn entry_of(category: u8, context: u32, left: u32, n: u64) -> u64
-    requires { Fields category context n × (left ≤ max_depth) }
-    ensures { Entry category context left n result }
+// The class under a 4 with the payload.
+fn class_under(payload: u32) -> Slot
+    requires { payload < 3 }
+    ensures { slot_of result ≡ class_under payload }
 {
-    category as u64 + 16 * (left as u64) + 2048 * (context as u64) + 137438953472 * n
-}
-
-// The run of n places on top. Answers the new top.
-fn push(stack: &mut [u64], top: usize, category: u8, context: u32, left: u32, n: u64) -> usize
-    requires { Fields category context n × Room stack.old top × (top < length stack.old) × (top + 4 * left ≤ 256) }
-    ensures { Stacked stack.old top (run category context left n) 1 stack.new result }
-{
-    if n == 0 {
-        return top;
+    match payload {
+        0 => Slot::PlainClass,
+        1 => Slot::ExportedClass,
+        _ => Slot::DefaultClass,
     }
-    stack[top] = entry_of(category, context, left, n);
-    top + 1
 }
 
-// The children of a class behind its decorators.
-fn push_class(stack: &mut [u64], top: usize, left: u32, flags: u32) -> usize
-    requires { Room stack.old top × (top + 3 ≤ length stack.old) × (top + 3 + 4 * left ≤ 256) }
-    ensures { Stacked stack.old top (places (max_depth + 1 - left) ((flags % 2) of id ∷ (flags / 4 % 2) of expression ∷ 1 of body ∷ [])) 3 stack.new result }
+// The decorators of a method that is a constructor or not.
+fn method_decorators(constructor: u32) -> Slot
+    requires { constructor < 2 }
+    ensures { slot_of result ≡ method_decorators constructor }
 {
-    let a = push(stack, top, grammar::BODY, grammar::PLAIN, left, 1);
-    let b = push(
-        stack,
-        a,
-        grammar::EXPRESSION,
-        grammar::PLAIN,
-        left,
-        (flags / 4 % 2) as u64,
-    );
-    push(
-        stack,
-        b,
-        grammar::ID,
-        grammar::PLAIN,
-        left,
-        (flags % 2) as u64,
-    )
+    match constructor {
+        0 => Slot::Decorators,
+        _ => Slot::ConstructorDecorators,
+    }
 }
 
-// The same of a method; of a property or an accessor with n values.
-fn push_method(stack: &mut [u64], top: usize, left: u32, flags: u32) -> usize
-    requires { Room stack.old top × (top + 3 ≤ length stack.old) × (top + 3 + 4 * left ≤ 256) }
-    ensures { Stacked stack.old top (places (max_depth + 1 - left) (1 of key ∷ 1 of method_parameters ∷ (flags / 4 % 2) of code ∷ [])) 3 stack.new result }
+// One of the parameters that stand in a slot.
+fn parameter_of(parameters: Slot) -> Slot
+    requires { (slot_of parameters).category ≡ Parameters }
+    ensures { slot_of result ≡ parameter_of (slot_of parameters).context }
 {
-    let a = push(
-        stack,
-        top,
-        grammar::CODE,
-        grammar::PLAIN,
-        left,
-        (flags / 4 % 2) as u64,
-    );
-    let b = push(stack, a, grammar::PARAMETERS, grammar::PLAIN, left, 1);
-    push(stack, b, grammar::EXPRESSION, grammar::AS_KEY, left, 1)
+    match parameters {
+        Slot::FunctionParameters => Slot::FunctionParameter,
+        _ => Slot::Parameter,
+    }
 }
 
-fn push_field(stack: &mut [u64], top: usize, left: u32, n: u64) -> usize
-    requires { Room stack.old top × (top + 3 ≤ length stack.old) × (top + 3 + 4 * left ≤ 256) × (n < 2) }
-    ensures { Stacked stack.old top (places (max_depth + 1 - left) (1 of key ∷ n of expression ∷ [])) 2 stack.new result }
+// The decorators of a parameter that stands in a slot.
+fn parameter_decorators(parameter: Slot) -> Slot
+    requires { (slot_of parameter).category ≡ Parameter }
+    ensures { slot_of result ≡ parameter_decorators (slot_of parameter).context }
 {
-    let a = push(stack, top, grammar::EXPRESSION, grammar::PLAIN, left, n);
-    push(stack, a, grammar::EXPRESSION, grammar::AS_KEY, left, 1)
+    match parameter {
+        Slot::FunctionParameter => Slot::FunctionDecorators,
+        _ => Slot::Decorators,
+    }
 }
 
-// The children of a record whose kind is in neither set: the first run, the others below it on the stack.
-fn children(stack: &mut [u64], top: usize, context: u32, left: u32, w: u32) -> Run
-    requires { Apart (kind_of w) × Room stack.old top × (top + 3 ≤ length stack.old) × (top + 3 + 4 * left ≤ 256) × (context < 67108864) }
-    ensures { (ahead stack.new result ≡ places (max_depth + 1 - left) ((row_of (kind_of w)).below context (payload_of w)) ++ waiting stack.old top) × Good stack.new result }
+// The children of a record that has some: the first run, the others below it on the stack.
+fn children<const N: usize>(stack: &mut Stack<N>, slot: Slot, left: u8, w: u32) -> Run
+    requires some { bit_of leaves (kind_of w) ≡ 0 }
+    requires allowed { allowed (slot_of slot) (kind_of w) (payload_of w) ≡ true }
+    requires room { length stack.old + 3 ≤ N }
+    requires levels { length stack.old + 3 + 4 * left ≤ 256 }
+    ensures places { waiting (result ∷ stack.new) ≡ places (max_depth + 1 - left) ((row_of (kind_of w)).below (slot_of slot).context (payload_of w)) ++ waiting stack.old }
+    ensures levels { length stack.new + 4 * result.left ≤ 256 }
 {
+    if words::kind_bit(PLAIN_KINDS, w) != 0 {
+        return Run::new(Slot::Expression, left, words::child_count(w));
+    }
     let p = words::payload_of(w);
-    let n = p as u64;
     match words::kind_of(w) {
         1 => {
-            let t = push(stack, top, grammar::STATEMENT, grammar::OWN_LIST, left, n);
-            Run {
-                category: grammar::SYMBOLS,
-                context: grammar::PLAIN,
-                left,
-                count: 1,
-                top: t,
-            }
+            stack.push(Run::new(Slot::OwnStatement, left, p));
+            Run::new(Slot::Symbols, left, 1)
         }
-        4 => Run {
-            category: grammar::CLASS,
-            context: p,
-            left,
-            count: 1,
-            top,
-        },
-        20 => Run {
-            category: grammar::CLASS,
-            context: grammar::CLASS_EXPRESSION,
-            left,
-            count: 1,
-            top,
-        },
+        4 => Run::new(class_under(p), left, 1),
+        20 => Run::new(Slot::ClassExpression, left, 1),
         21 => {
-            let t = push(stack, top, grammar::CODE, grammar::PLAIN, left, 1);
-            Run {
-                category: grammar::PARAMETERS,
-                context: grammar::OF_FUNCTION,
-                left,
-                count: 1,
-                top: t,
-            }
+            stack.push(Run::new(Slot::Code, left, 1));
+            Run::new(Slot::FunctionParameters, left, 1)
         }
         26 => {
-            let t = push_class(stack, top, left, p);
-            Run {
-                category: grammar::DECORATORS,
-                context: grammar::PLAIN,
-                left,
-                count: 1,
-                top: t,
-            }
+            stack.push(Run::new(Slot::Body, left, 1));
+            stack.push(Run::new(Slot::Expression, left, p / 4 % 2));
+            stack.push(Run::new(Slot::Id, left, p % 2));
+            Run::new(Slot::Decorators, left, 1)
         }
-        29 => Run {
-            category: grammar::ELEMENT,
-            context: grammar::PLAIN,
-            left,
-            count: n,
-            top,
-        },
+        29 => Run::new(Slot::Element, left, p),
         30 => {
-            let t = push_method(stack, top, left, p);
-            Run {
-                category: grammar::DECORATORS,
-                context: p / 2 % 2,
-                left,
-                count: 1,
-                top: t,
-            }
+            stack.push(Run::new(Slot::Code, left, p / 4 % 2));
+            stack.push(Run::new(Slot::Parameters, left, 1));
+            stack.push(Run::new(Slot::Key, left, 1));
+            Run::new(method_decorators(p / 2 % 2), left, 1)
         }
         31 => {
-            let t = push_field(stack, top, left, n / 2 % 2);
-            Run {
-                category: grammar::DECORATORS,
-                context: grammar::PLAIN,
-                left,
-                count: 1,
-                top: t,
-            }
+            stack.push(Run::new(Slot::Expression, left, p / 2 % 2));
+            stack.push(Run::new(Slot::Key, left, 1));
+            Run::new(Slot::Decorators, left, 1)
         }
         32 => {
-            let t = push_field(stack, top, left, 0);
-            Run {
-                category: grammar::DECORATORS,
-                context: grammar::PLAIN,
-                left,
-                count: 1,
-                top: t,
-            }
+            stack.push(Run::new(Slot::Key, left, 1));
+            Run::new(Slot::Decorators, left, 1)
         }
-        36 => Run {
-            category: grammar::PARAMETER,
-            context,
-            left,
-            count: n,
-            top,
-        },
+        36 => Run::new(parameter_of(slot), left, p),
         37 => {
-            let t = push(stack, top, grammar::EXPRESSION, grammar::PLAIN, left, n);
-            Run {
-                category: grammar::DECORATORS,
-                context,
-                left,
-                count: 1,
-                top: t,
-            }
+            stack.push(Run::new(Slot::Expression, left, p));
+            Run::new(parameter_decorators(slot), left, 1)
         }
-        _ => Run {
-            category: grammar::STATEMENT,
-            context: grammar::PLAIN,
-            left,
-            count: n,
-            top,
-        },
+        _ => Run::new(Slot::Statement, left, p),
     }
 }
 
-// The run itself, or the next one of the stack if it has no place; none has a place if that has none.
-fn next(stack: &[u64], run: Run) -> Run
-    requires { Good stack.now run }
-    ensures { (ahead stack.now result ≡ ahead stack.now run) × Good stack.now result × (result.count ≡ 0 → ahead stack.now run ≡ []) }
+// The scan of the words with a stack of N runs, or none where it is too short: one of 256 never is. `symbols` is the number of symbols.
+fn scan<const N: usize>(ws: &[u32], symbols: u32) -> Option<Result<(), Refusal>>
+    requires { N ≤ 256 }
+    ensures long { IsNone result → N < 256 }
+    ensures scanned { IfSome result (λ r. code_of r ≡ judge symbols (top ∷ []) ws.now) }
 {
-    if run.count != 0 {
-        return run;
-    }
-    if run.top == 0 {
-        return run;
-    }
-    let top = run.top - 1;
-    let e = stack[top];
-    Run {
-        category: (e % 16) as u8,
-        context: (e / 2048 % 67108864) as u32,
-        left: (e / 16 % 128) as u32,
-        count: e / 137438953472,
-        top,
-    }
-}
-
-// The scan of the words, `s` being the number of symbols: the first fault, or the place behind the module's record; or `NO_ROOM` where the lent stack
-// is too short. One of 256 entries never is.
-fn scan(ws: &[u32], s: u32, stack: &mut [u64]) -> Step
-    ensures { Scanned s ws.now (length stack.old) result }
-{
-    let mut run = Run {
-        category: grammar::MODULE,
-        context: grammar::PLAIN,
-        left: grammar::MAX_DEPTH,
-        count: 1,
-        top: 0,
-    };
-    let mut at = 0usize;
-    loop {
-        let r = next(stack, run);
-        if r.count == 0 {
-            return Step { fault: 0, next: at };
-        }
-        if ws.len() <= at {
-            return Step { fault: 2, next: at };
-        }
-        let w = ws[at];
-        let f = grammar::fault(s, r.category, r.context, r.left, w);
-        if f != 0 {
-            return Step { fault: f, next: at };
-        }
-        at += 1;
-        if words::kind_bit(LEAVES, w) != 0 {
-            run = Run {
-                category: r.category,
-                context: r.context,
-                left: r.left,
-                count: r.count - 1,
-                top: r.top,
-            };
-            continue;
-        }
-        if stack.len() < r.top + 4 {
-            return Step {
-                fault: NO_ROOM,
-                next: at,
-            };
-        }
-        let t = push(stack, r.top, r.category, r.context, r.left, r.count - 1);
-        if words::kind_bit(PLAIN_KINDS, w) == 0 {
-            run = children(stack, t, r.context, r.left - 1, w);
-            continue;
-        }
-        run = Run {
-            category: grammar::EXPRESSION,
-            context: grammar::PLAIN,
-            left: r.left - 1,
-            count: words::child_count(w) as u64,
-            top: t,
+    let mut stack = Stack::<N>::new();
+    let mut run = Run::new(Slot::Module, grammar::MAX_DEPTH as u8, 1);
+    for w in ws {
+        let Some(next) = stack.next(run) else {
+            return Some(Err(Refusal::Malformed));
         };
-    }
-}
-
-// The scan with a stack that is long enough. A short module has a short one first: it is cleared sooner.
-fn scan_all(ws: &[u32], s: u32) -> Step
-    ensures { Walked s ws.now 0 (place module' 1 ∷ []) result }
-{
-    if ws.len() <= 64 {
-        let mut few = [0u64; 32];
-        let r = scan(ws, s, &mut few);
-        if r.fault != NO_ROOM {
-            return r;
+        if let Err(refusal) = grammar::fault(symbols, next.slot, next.left as u32, *w) {
+            return Some(Err(refusal));
         }
+        let rest = Run::new(next.slot, next.left, next.count - 1);
+        if words::kind_bit(LEAVES, *w) != 0 {
+            run = rest;
+            continue;
+        }
+        if !stack.has_room() {
+            return None;
+        }
+        stack.push(rest);
+        run = children(&mut stack, next.slot, next.left - 1, *w);
     }
-    let mut stack = [0u64; ROOM];
-    scan(ws, s, &mut stack)
+    match stack.next(run) {
+        Some(_) => Some(Err(Refusal::Malformed)),
+        None => Some(Ok(())),
+    }
 }
 
 // The number of symbols that the second word says.
+#[tactic(auto, using(grammar::proofs::Places::symbols_none), unfolding(grammar::specs::Scan::symbols_of))]
 fn symbol_count(ws: &[u32]) -> u32
     ensures { result ≡ symbols_of ws.now }
 {
-    if ws.len() < 2 {
-        return 0;
-    }
-    words::payload_of(ws[1])
-}
-
-// The verdict of a refusal's number.
-fn verdict_of(fault: u32) -> Verdict
-    requires { fault ≤ 6 }
-    ensures { number_of result ≡ fault }
-{
-    match fault {
-        0 => Verdict::Accepted,
-        1 => Verdict::BadLength,
-        2 => Verdict::Malformed,
-        3 => Verdict::TooDeep,
-        4 => Verdict::UnknownSymbol,
-        5 => Verdict::TooManySymbols,
-        _ => Verdict::DecoratedConstructor,
+    match ws.get(1) {
+        Some(w) => words::payload_of(*w),
+        None => 0,
     }
 }
 
-// Is the list of words a module, or which refusal of 1 to 6 is it.
-pub fn validate(ws: &[u32]) -> Verdict
-    ensures { number_of result ≡ refusal ws.now }
+// Is the list of words a module, or which refusal of 1 to 6 is it. Not in line: the stacks are no part of a caller's frame.
+#[tactic(auto, unfolding(grammar::specs::Scan::refusal))]
+#[inline(never)]
+pub fn validate(ws: &[u32]) -> Result<(), Refusal>
+    ensures { code_of result ≡ refusal ws.now }
 {
-    if ws.len() == 0 {
-        return Verdict::BadLength;
+    if ws.is_empty() || grammar::MAX_WORDS < ws.len() {
+        return Err(Refusal::BadLength);
     }
-    if grammar::MAX_WORDS < ws.len() {
-        return Verdict::BadLength;
+    let symbols = symbol_count(ws);
+    // A shorter module has a shorter stack first: it is cleared sooner, and seldom too short.
+    if ws.len() <= 64 {
+        if let Some(answer) = scan::<40>(ws, symbols) {
+            return answer;
+        }
     }
-    let s = symbol_count(ws);
-    let r = scan_all(ws, s);
-    let f = r.fault;
-    if f != 0 {
-        return verdict_of(f);
+    if ws.len() <= 512 {
+        if let Some(answer) = scan::<96>(ws, symbols) {
+            return answer;
+        }
     }
-    if r.next < ws.len() {
-        return Verdict::Malformed;
-    }
-    Verdict::Accepted
-}
-
-// The first of the three numbers returned.
-pub fn number(verdict: Verdict) -> u32
-    ensures { result ≡ number_of verdict }
-{
-    match verdict {
-        Verdict::Accepted => 0,
-        Verdict::BadLength => 1,
-        Verdict::Malformed => 2,
-        Verdict::TooDeep => 3,
-        Verdict::UnknownSymbol => 4,
-        Verdict::TooManySymbols => 5,
-        Verdict::DecoratedConstructor => 6,
-    }
+    scan::<256>(ws, symbols).unwrap()
 }

@@ -3,13 +3,16 @@ use Rattle.std.specs.Prelude.{◌≡◌, Bool, true, ◌&&◌, cond}
 use Rattle.std.proofs.Math.Path.{refl, ap}
 use Rattle.std.proofs.Common.{◌∙◌}
 use Rattle.std.proofs.Math.Bool.{false}
-use Rattle.std.proofs.Math.Option.{Option, none, some}
+use Rattle.std.specs.declared.option.Option.{Option}
+use Rattle.std.specs.declared.option.Option.TheVariants.{None as none, Some as some}
 use Prim.Native.Nat.{ℕ, suc, ◌≤◌}
 use native.Mathlib.Omega.{arith}
 use Rattle.records.specs.Forest.{end, node, take_f, drop_f, append_f, count_f, any_f, count_f_append}
 use Rattle.records.specs.Label.{Label, Trees, repay, is}
 use Rattle.rewriting.specs.Parts.{Role, module' as module_role, list, statement, expression, method, constructor, plain, field, role_of, tree, undecorate, change_kids, bare_parameters, bare_method, bare_field, is_decorated_member, has_plain_key, elements_of, id_of, is_decorated, is_live, class_kids, is_empty}
-use Rattle.rewriting.specs.Visit.{Around, State, Result, class_symbol, name_if, name_of, called₁, called₂, member_if, member, is_ref, symbols_of, named_symbols, decorated₁, decorated₂, live_class_if, live_class, dead_class, class_if, kept, own, work, since, inside, entering, join, ◌then◌, whole_module, decorated_statement, undecorated_if, visit, visit_one, visit_node}
+use Rattle.rewriting.specs.Visit.{Result, class_symbol, name_if, name_of, called₁, called₂, member_if, member, is_ref, symbols_of, named_symbols, decorated₁, decorated₂, live_class_if, live_class, dead_class, class_if, kept, own, work, since, inside, entering, join, ◌then◌, whole_module, decorated_statement, undecorated_if, visit, visit_one, visit_node}
+use Rattle.rewriting.specs.declared.Around.{Around}
+use Rattle.rewriting.specs.declared.State.{State}
 use Rattle.walk_laws.specs.Rows.{fresh}
 
 -- ---- what a member and a class add

@@ -4,7 +4,7 @@ use Rattle.std.proofs.Math.Path.{refl, ap, sym}
 use Rattle.std.proofs.Common.{◌∙◌, eqb-true, ne_eqb}
 use Rattle.std.proofs.Math.Bool.{and-false}
 use Rattle.std.proofs.lemmas.Bool.{false≢true}
-use Rattle.std.proofs.Math.Option.{Option}
+use Rattle.std.specs.declared.option.Option.{Option}
 use Rattle.words.specs.Table.{lookup}
 use Rattle.records.specs.Forest.{end, node}
 use Rattle.records.specs.Label.{Label, Trees}
@@ -13,7 +13,9 @@ use Rattle.grammar.specs.Grammar.{Slot, Element, Row, row, no_row, leaf, express
 use Rattle.grammar.specs.WellFormed.{Allowed, Fits}
 use Rattle.grammar.proofs.Rows.{each, each_row, implied, allowed_row, allowed_known}
 use Rattle.rewriting.specs.Parts.{Role, module', list, statement, expression, method, constructor, plain, field, role_of, is_decorated_member}
-use Rattle.rewriting.specs.Visit.{Around, State, Result, member_if, member, own, since, work, inside, entering, join, ◌then◌, visit, visit_one, visit_node}
+use Rattle.rewriting.specs.Visit.{Result, member_if, member, own, since, work, inside, entering, join, ◌then◌, visit, visit_one, visit_node}
+use Rattle.rewriting.specs.declared.Around.{Around}
+use Rattle.rewriting.specs.declared.State.{State}
 use Rattle.walk_laws.specs.Rows.{visit_at, one_after}
 use Rattle.walk_laws.specs.Slots.{Standing, standing_at}
 use Rattle.walk_laws.specs.Single.{T_true}

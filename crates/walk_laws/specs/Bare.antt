@@ -11,7 +11,9 @@ use Rattle.records.specs.Place.{records_at, label_at, arity_at, kids_at, end_of,
 use Rattle.grammar.specs.Grammar.{Slot, slot, Decorators, module', expression, parameter_decorators, parameter_of, slots_below}
 use Rattle.grammar.specs.WellFormed.{Fits}
 use Rattle.rewriting.specs.Parts.{plain, method, field, tree, role_of, is_empty, decorators, undecorate, decorators_of, parameters_of, indexed, of_parameters, bare_parameters, bare_method, bare_field, is_member, is_decorated_member}
-use Rattle.rewriting.specs.Visit.{Around, State, Result, member_if, member, since, join, ◌then◌, visit, visit_one, visit_node}
+use Rattle.rewriting.specs.Visit.{Result, member_if, member, since, join, ◌then◌, visit, visit_one, visit_node}
+use Rattle.rewriting.specs.declared.Around.{Around}
+use Rattle.rewriting.specs.declared.State.{State}
 use Rattle.walk_laws.specs.Rows.{visit_at, plain_one}
 use Rattle.walk_laws.specs.Slots.{Standing, standing_at, none_fits, fits_first, no_fits}
 use Rattle.walk_laws.specs.Roles.{Sort, is_method, is_property, is_accessor, member_sort, is_kind, is_other, plain_28, plain_37, bare_by, descriptor_by, member_one}

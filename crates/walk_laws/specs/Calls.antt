@@ -4,7 +4,8 @@ use Rattle.std.proofs.Math.Path.{refl, ap}
 use Rattle.std.proofs.Common.{sym, subst, ◌∙◌, true≢false}
 use Rattle.std.proofs.Math.Bool.{true, false, cond}
 use Rattle.std.proofs.lemmas.Bool.{false≢true}
-use Rattle.std.proofs.Math.Option.{Option, none, some}
+use Rattle.std.specs.declared.option.Option.{Option}
+use Rattle.std.specs.declared.option.Option.TheVariants.{None as none, Some as some}
 use mathlib.Core.List.{List, [], ◌∷◌, ◌++◌}
 use Prim.Native.Nat.{ℕ, suc, ◌+◌, ◌-◌, ◌<◌}
 use native.Mathlib.Omega.{arith}
@@ -17,7 +18,9 @@ use Rattle.grammar.specs.Grammar.{Element, module', element, expression, table, 
 use Rattle.grammar.specs.WellFormed.{Allowed, Fits}
 use Rattle.grammar.proofs.Rows.{allowed_row}
 use Rattle.rewriting.specs.Parts.{role_of, tree, indexed, of_parameters, decorators, parameters_of, decorators_of, is_member, is_decorated_member, is_plain_key, has_plain_key}
-use Rattle.rewriting.specs.Visit.{Around, State, Result, Taken, class_symbol, plain_name, name_if, name_of, prefix, array, member_call, called₁, called₂, member_if, member, since, visit, visit_one}
+use Rattle.rewriting.specs.Visit.{Result, Taken, class_symbol, plain_name, name_if, name_of, prefix, array, member_call, called₁, called₂, member_if, member, since, visit, visit_one}
+use Rattle.rewriting.specs.declared.Around.{Around}
+use Rattle.rewriting.specs.declared.State.{State}
 use Rattle.walk_laws.specs.Rows.{visit_at, calls_add, one_calls, one_after, plain_here}
 use Rattle.walk_laws.specs.Written.{word_by, written, written_node, written_tree, written_append}
 use Rattle.walk_laws.specs.Slots.{standing_at}

@@ -3,7 +3,8 @@ use Rattle.std.proofs.Math.Path.{◌≡◌, refl, ap}
 use Rattle.std.proofs.Common.{sym, ◌∙◌}
 use Rattle.std.specs.Prelude.{Bool, ◌||◌, not, List, [], ◌∷◌, length}
 use Rattle.std.proofs.Math.Bool.{true, false}
-use Rattle.std.proofs.Math.Option.{Option, none}
+use Rattle.std.specs.declared.option.Option.{Option}
+use Rattle.std.specs.declared.option.Option.TheVariants.{None as none}
 use Prim.Native.Nat.{ℕ, ◌+◌, ◌-◌, ◌<◌}
 use native.Mathlib.Omega.{arith}
 use Rattle.words.specs.Table.{lookup}
@@ -14,7 +15,9 @@ use Rattle.records.specs.Place.{records_at, label_at, arity_at, kids_at, end_of}
 use Rattle.grammar.specs.Grammar.{Expression, module', row, table, row_of}
 use Rattle.grammar.specs.WellFormed.{Fits}
 use Rattle.rewriting.specs.Parts.{tree, role_of, statement, decorators, is_empty, elements_of, id_of, constructor_decorated, is_decorated, is_live, class_kids}
-use Rattle.rewriting.specs.Visit.{Around, State, Result, live_class_if, live_class, class_if, own, since, work, inside, entering, visit, visit_one}
+use Rattle.rewriting.specs.Visit.{Result, live_class_if, live_class, class_if, own, since, work, inside, entering, visit, visit_one}
+use Rattle.rewriting.specs.declared.Around.{Around}
+use Rattle.rewriting.specs.declared.State.{State}
 use Rattle.walk_laws.specs.Rows.{visit_at, fresh, after_add, kids_visit, plain_here, plain_calls}
 use Rattle.walk_laws.specs.ClassParts.{id_symbol, class_parts, Without, IsId, class_elements, class_symbol_lem}
 use Rattle.walk_laws.specs.Slots.{Standing, standing_at}

@@ -2,7 +2,8 @@
 use Rattle.std.specs.Prelude.{◌≡◌, Bool, true, false, cond, ℕ, suc}
 use Rattle.std.proofs.Math.Path.{refl, ap}
 use Rattle.std.proofs.Common.{◌∙◌}
-use Rattle.std.proofs.Math.Option.{Option, none, some}
+use Rattle.std.specs.declared.option.Option.{Option}
+use Rattle.std.specs.declared.option.Option.TheVariants.{None as none, Some as some}
 use mathlib.Core.List.{List, ◌∷◌, ◌++◌}
 use Rattle.records.specs.Forest.{end, node, take_f, drop_f, append_f, count_f}
 use Rattle.records.specs.Label.{Label, Trees, ◌∶◌, repay, is}

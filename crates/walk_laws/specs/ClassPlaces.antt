@@ -2,7 +2,8 @@
 use Rattle.std.specs.Prelude.{◌≡◌, T, length}
 use Rattle.std.proofs.Math.Path.{refl, ap, subst}
 use Rattle.std.proofs.Common.{sym, ◌∙◌, zero-add, suc-add, arith, length-append}
-use Rattle.std.proofs.Math.Option.{Option, none, some}
+use Rattle.std.specs.declared.option.Option.{Option}
+use Rattle.std.specs.declared.option.Option.TheVariants.{None as none, Some as some}
 use mathlib.Core.List.{List, [], ◌∷◌, ◌++◌, append-nil}
 use Prim.Native.Nat.{ℕ, zero, suc, ◌+◌, ◌-◌, ◌<◌}
 use Rattle.std.proofs.Math.ListN.{replicate}
@@ -17,7 +18,9 @@ use Rattle.grammar.specs.WellFormed.{Allowed, Fits}
 use Rattle.grammar.proofs.Children.{allowed_sole}
 use Rattle.grammar.proofs.Rows.{sole_kind}
 use Rattle.rewriting.specs.Parts.{tree, decorators, elements_of}
-use Rattle.rewriting.specs.Visit.{Around, State, Result, visit}
+use Rattle.rewriting.specs.Visit.{Result, visit}
+use Rattle.rewriting.specs.declared.Around.{Around}
+use Rattle.rewriting.specs.declared.State.{State}
 use Rattle.walk_laws.specs.Rows.{visit_at, here_add, calls_add, kids_visit, plain_here, plain_calls}
 use Rattle.walk_laws.specs.Slots.{Standing, standing_at, RowFits, kind_row, row_first}
 use Rattle.walk_laws.specs.Single.{Stays, expression_stays}

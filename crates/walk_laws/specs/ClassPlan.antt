@@ -1,12 +1,16 @@
 -- The symbols of a live class, the states and the places of its parts, and the words that its statement becomes by them. Assumes nothing.
-use Rattle.std.specs.Prelude.{Bool, true, false, ◌&&◌, ◌||◌, not, cond, List, [], ◌∷◌, ◌++◌, ℕ, zero, suc, ◌+◌, eqb}
-use Rattle.std.proofs.Math.Option.{Option, none, some}
+use Rattle.std.specs.Prelude.{Bool, true, false, ◌&&◌, ◌||◌, not, cond, List, [], ◌∷◌, ◌++◌, ℕ, zero, suc, ◌+◌, eqb, is_some}
+use Rattle.std.specs.Int.{from_bool}
+use Rattle.std.specs.Option.{option_or}
+use Rattle.std.specs.declared.option.Option.{Option}
+use Rattle.std.specs.declared.option.Option.TheVariants.{None as none, Some as some}
 use Rattle.words.specs.Word.{bit0, bit2}
 use Rattle.records.specs.Forest.{count_f}
 use Rattle.records.specs.Label.{Trees}
 use Rattle.records.specs.Place.{label_at, arity_at, kids_at, end_of}
 use Rattle.rewriting.specs.Parts.{is_empty, elements_of, id_of, has_private_in, has_static, first_constructor, bare_first, is_decorated}
-use Rattle.rewriting.specs.Visit.{Around, State}
+use Rattle.rewriting.specs.declared.Around.{Around}
+use Rattle.rewriting.specs.declared.State.{State}
 use Rattle.walk_laws.specs.Rows.{visit_at, fresh}
 use Rattle.walk_laws.specs.After.{mentioned}
 use Rattle.walk_laws.specs.Written.{written}
@@ -21,10 +25,6 @@ pub record Plan : Type 0 where
   pub inner : Option ℕ
   pub alias : Option ℕ
 
-unfoldable pub either : Option ℕ → Option ℕ → Option ℕ
-either (some c) d = some c
-either none d = d
-
 -- of a decorated class. t: the state behind its children; m: whether rule 6's search finds its symbol
 unfoldable pub decorated_plan : Option ℕ → State → Bool → Plan
 decorated_plan (some c) t m = record { outer = c; inner = some t.next; alias = cond m (some (suc t.next)) none }
@@ -32,7 +32,7 @@ decorated_plan none t m = record { outer = symbol_of t.default (some t.next); in
 
 unfoldable pub plan_of : Bool → Option ℕ → State → Bool → Plan
 plan_of true id t m = decorated_plan id t m
-plan_of false id t m = record { outer = symbol_of id t.default; inner = either id t.default; alias = none }
+plan_of false id t m = record { outer = symbol_of id t.default; inner = option_or id t.default; alias = none }
 
 -- ---- words by a plan
 
@@ -56,14 +56,6 @@ module _ (word : ℕ → ℕ → ℕ) where
   export_words zero c = []
   export_words (suc zero) c = word 6 c ∷ []
   export_words (suc (suc p)) c = word 7 c ∷ []
-
-unfoldable pub is_some : Option ℕ → Bool
-is_some none = false
-is_some (some b) = true
-
-unfoldable pub one : Bool → ℕ
-one true = 1
-one false = 0
 
 -- ---- the class statement at `at`; n: the counter in front of it
 
@@ -114,7 +106,7 @@ module _ (ws : List ℕ) (at : ℕ) where
 
     -- the number of statements put in behind it
     unfoldable pub queue_count : ℕ
-    queue_count = cond (has_private_in rk) 0 (count_f queue + cond (is_decorated rk) (1 + one (not (eqb (label_at ws at).payload 0))) 0)
+    queue_count = cond (has_private_in rk) 0 (count_f queue + cond (is_decorated rk) (1 + from_bool (not (eqb (label_at ws at).payload 0))) 0)
 
     module _ (word : ℕ → ℕ → ℕ) where
       -- in front of the class
@@ -129,12 +121,12 @@ module _ (ws : List ℕ) (at : ℕ) where
 
       unfoldable pub body_words : List ℕ
       body_words =
-          word 29 (arity_at ws body_at + (one front + one block)) ∷
+          word 29 (arity_at ws body_at + (from_bool front + from_bool block)) ∷
           (cond front (block_words word plan.alias) [] ++ (element_words ++ cond block (word 33 (count_f queue) ∷ written word queue) []))
 
       unfoldable pub class_words : List ℕ
       class_words =
-          word 26 ((label_at ws (at + 1)).payload + one (not (is_some (id_of rk)) && is_some plan.inner)) ∷ word 28 0 ∷
+          word 26 ((label_at ws (at + 1)).payload + from_bool (not (is_some (id_of rk)) && is_some plan.inner)) ∷ word 28 0 ∷
           (optional word 27 plan.inner ++ (written word (visit_at ws heritage_at (bit2 (label_at ws (at + 1)).payload) scope at_heritage).here ++ body_words))
 
       -- rule 7

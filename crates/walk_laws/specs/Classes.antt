@@ -1,9 +1,12 @@
 -- What a live class statement becomes, in the order in which it is written (rules 6 to 10). Assumes nothing.
-use Rattle.std.specs.Prelude.{◌≡◌, ◌&&◌, not, eqb, length}
+use Rattle.std.specs.Prelude.{◌≡◌, ◌&&◌, not, eqb, length, is_some}
 use Rattle.std.proofs.Math.Path.{refl, ap, sym}
 use Rattle.std.proofs.Common.{◌∙◌, arith}
 use Rattle.std.proofs.Math.Bool.{Bool, true, false, cond, and-true, and-false}
-use Rattle.std.proofs.Math.Option.{Option, none, some}
+use Rattle.std.specs.Int.{from_bool}
+use Rattle.std.specs.Option.{option_or}
+use Rattle.std.specs.declared.option.Option.{Option}
+use Rattle.std.specs.declared.option.Option.TheVariants.{None as none, Some as some}
 use mathlib.Core.List.{List, [], ◌∷◌, ◌++◌, append_assoc, append-nil}
 use Prim.Native.Nat.{ℕ, ◌+◌, ◌-◌, ◌<◌}
 use Rattle.std.proofs.Math.Nat.{add-zero}
@@ -13,7 +16,9 @@ use Rattle.records.specs.Place.{records_at, label_at, arity_at, kids_at, end_of}
 use Rattle.grammar.specs.Grammar.{module'}
 use Rattle.grammar.specs.WellFormed.{Fits}
 use Rattle.rewriting.specs.Parts.{tree, decorators, undecorate, with_elements, is_empty, of_parameters, is_constructor, elements_of, id_of, has_private_in, has_static, has_constructor, first_constructor, bare_first, bare_method, is_decorated, is_live}
-use Rattle.rewriting.specs.Visit.{Around, State, renamed, assignment, let_alias, call_block, queued, export, with_id, decorated_statement, name_class, extend_body, undecorated_if, live_class_if, visit, visit_one}
+use Rattle.rewriting.specs.Visit.{renamed, assignment, let_alias, call_block, queued, export, with_id, decorated_statement, name_class, extend_body, undecorated_if, live_class_if, visit, visit_one}
+use Rattle.rewriting.specs.declared.Around.{Around}
+use Rattle.rewriting.specs.declared.State.{State}
 use Rattle.walk_laws.specs.Rows.{visit_at}
 use Rattle.walk_laws.specs.After.{mentioned}
 use Rattle.walk_laws.specs.Written.{word_by, written, written_end, written_append, written_tree}
@@ -23,7 +28,7 @@ use Rattle.walk_laws.specs.Roles.{constructor_kind}
 use Rattle.walk_laws.specs.Elements.{Called, method_called, called_parameters}
 use Rattle.walk_laws.specs.First.{nth, at_nth, nth_kids, behind_nth, none_bare, none_first, nth_place, first_bare, first_parameters}
 use Rattle.walk_laws.specs.Members.{bare_words, constructor_written}
-use Rattle.walk_laws.specs.ClassPlan.{Plan, either, decorated_plan, plan_of, under, optional, export_words, is_some, one, rk, body_at, at_end, ds, els, queue, plan, front, block, queue_count, head_words, element_words, body_words, class_words, assignment_words, queue_words}
+use Rattle.walk_laws.specs.ClassPlan.{Plan, decorated_plan, plan_of, under, optional, export_words, rk, body_at, at_end, ds, els, queue, plan, front, block, queue_count, head_words, element_words, body_words, class_words, assignment_words, queue_words}
 use Rattle.walk_laws.specs.Planned.{head_written, assignment_written, export_written, block_written, queued_written, kind_word, parts_words, block_count, queued_count, export_count, statement_count, elements_by, body_count, body_written, entries_count, entries_written, give_plan, flags_plan, name_plan, give_parts, name_parts, bare_parts, extend_parts, decorated_here, by_plan}
 use Rattle.walk_laws.specs.ClassFacts.{class_label, decorators_label, body_label, id_label, heritage, parts, is_empty_lem, ClassFacts, class_facts, statement_here}
 
@@ -31,7 +36,7 @@ use Rattle.walk_laws.specs.ClassFacts.{class_label, decorators_label, body_label
 
 module _ (ws : List ℕ) (at n : ℕ) (f : ClassFacts ws at n) (word : ℕ → ℕ → ℕ) where
   class_words_lem : (c : Label) (i : Option Label) (b : Label) (new : Trees) → c.kind ≡ 26 → IsId i → b.kind ≡ 29 →
-      c.payload ≡ (class_label ws at n).payload + one (not (is_some (id_of (rk ws at))) && is_some (plan ws at n).inner) → id_symbol i ≡ (plan ws at n).inner →
+      c.payload ≡ (class_label ws at n).payload + from_bool (not (is_some (id_of (rk ws at))) && is_some (plan ws at n).inner) → id_symbol i ≡ (plan ws at n).inner →
       word 29 b.payload ∷ written word new ≡ body_words ws at n word →
       written word (tree c (class_parts (repay (decorators_label ws at n) 0) end i (heritage ws at n) b new)) ≡ class_words ws at n word
   unfolding class_words
@@ -81,9 +86,9 @@ module _ (ws : List ℕ) (at n : ℕ) (f : ClassFacts ws at n) (e : is_decorated
         let m : Bool = mentioned (id_of (rk ws at)) (els ws at n) in
         let i : Option Label = id_label ws at n in
         let c : Label = class_label ws at n in
-        let flags : one (not (is_some (id_of (rk ws at))) && is_some (plan ws at n).inner) ≡ 0 =
-        ap (λ (g : Plan). one (not (is_some (id_of (rk ws at))) && is_some g.inner)) planned ∙ flags_plan (id_of (rk ws at)) (at_end ws at n) m in
-        let same : c.payload ≡ c.payload + one (not (is_some (id_of (rk ws at))) && is_some (plan ws at n).inner) = omega (arith, flags) in
+        let flags : from_bool (not (is_some (id_of (rk ws at))) && is_some (plan ws at n).inner) ≡ 0 =
+        ap (λ (g : Plan). from_bool (not (is_some (id_of (rk ws at))) && is_some g.inner)) planned ∙ flags_plan (id_of (rk ws at)) (at_end ws at n) m in
+        let same : c.payload ≡ c.payload + from_bool (not (is_some (id_of (rk ws at))) && is_some (plan ws at n).inner) = omega (arith, flags) in
         let symbol : id_symbol (give_id (plan ws at n).inner i) ≡ (plan ws at n).inner = cc (give_plan i (at_end ws at n) m, inner_planned) in
         ap (λ (g : Trees). written word (tree c g)) (decorated_parts elements)
         ∙ class_words_lem ws at n f word c (give_id (plan ws at n).inner i) (repay (body_label ws at n) (count_f elements)) elements f.ck (give_is (plan ws at n).inner i f.ik) (unfold repay in f.bk) same symbol
@@ -149,7 +154,7 @@ module _ (ws : List ℕ) (at n : ℕ) (f : ClassFacts ws at n) (e : is_decorated
       let x : Trees = assignment (plan ws at n).outer (plan ws at n).alias (append_f (decorators (parts ws at n)) (first_constructor (renamed (plan ws at n).outer (plan ws at n).alias (els ws at n)))) in
       let y : Trees = export (label_at ws at).payload (plan ws at n).outer in
       let one-assignment : count_f x ≡ 1 = unfold assignment tree count_f in refl in
-      let all : count_f (append_f (queue ws at n) (append_f x y)) ≡ count_f (queue ws at n) + (1 + one (not (eqb (label_at ws at).payload 0))) =
+      let all : count_f (append_f (queue ws at n) (append_f x y)) ≡ count_f (queue ws at n) + (1 + from_bool (not (eqb (label_at ws at).payload 0))) =
       omega (arith, count_f_append (queue ws at n) (append_f x y), count_f_append x y, export_count (label_at ws at).payload (plan ws at n).outer) in
       ap count_f (decorated_here_lem o)
       ∙ count_f_append _ _
@@ -157,21 +162,19 @@ module _ (ws : List ℕ) (at n : ℕ) (f : ClassFacts ws at n) (e : is_decorated
 
 -- ---- a class that isn't decorated
 
-either_none : (x : Option ℕ) → either x none ≡ x
-unfolding either
-either_none none = refl
-either_none (some c) = refl
+or_none : (x : Option ℕ) → option_or x none ≡ x
+or_none none = refl
+or_none (some c) = refl
 
 -- a class that keeps its id, or has none
-same_flags : (x : Option ℕ) → one (not (is_some x) && is_some x) ≡ 0
-unfolding is_some one
+same_flags : (x : Option ℕ) → from_bool (not (is_some x) && is_some x) ≡ 0
 same_flags none = refl
 same_flags (some c) = refl
 
 module _ (ws : List ℕ) (at n : ℕ) (f : ClassFacts ws at n) (e : is_decorated (rk ws at) ≡ false) where
-  named_plan : ((plan ws at n).inner ≡ either (id_symbol (id_label ws at n)) (at_end ws at n).default) × ((plan ws at n).alias ≡ none)
+  named_plan : ((plan ws at n).inner ≡ option_or (id_symbol (id_label ws at n)) (at_end ws at n).default) × ((plan ws at n).alias ≡ none)
   unfolding plan plan_of
-  named_plan = rw e (ap (λ (x : Option ℕ). either x (at_end ws at n).default) f.ids, refl)
+  named_plan = rw e (ap (λ (x : Option ℕ). option_or x (at_end ws at n).default) f.ids, refl)
 
   -- its 28 is empty as read
   bare_class : (i : Option Label) (b : Label) (new : Trees) →
@@ -181,18 +184,18 @@ module _ (ws : List ℕ) (at n : ℕ) (f : ClassFacts ws at n) (e : is_decorated
       cc (z, (f.bare e).1)
 
   front_none : front ws at n ≡ false
-  unfolding front is_some
+  unfolding front
   front_none = rw named_plan.1
 
   -- its elements, with a block behind them if x
   module _ (word : ℕ → ℕ → ℕ) where
     undecorated_body : (x : Bool) → block ws at n ≡ x →
         word 29 (count_f (append_f (els ws at n) (call_block x (queue ws at n)))) ∷ written word (append_f (els ws at n) (call_block x (queue ws at n))) ≡ body_words ws at n word
-    unfolding body_words element_words one
+    unfolding body_words element_words
     undecorated_body x b =
         let a : (plan ws at n).alias ≡ none = named_plan.1 in
         let w : List ℕ = written word (els ws at n) ++ cond x (word 33 (count_f (queue ws at n)) ∷ written word (queue ws at n)) [] in
-        let count : count_f (append_f (els ws at n) (call_block x (queue ws at n))) ≡ arity_at ws (body_at ws at) + (one false + one x) =
+        let count : count_f (append_f (els ws at n) (call_block x (queue ws at n))) ≡ arity_at ws (body_at ws at) + (from_bool false + from_bool x) =
         omega (arith, count_f_append (els ws at n) (call_block x (queue ws at n)), f.count, block_count x (queue ws at n)) in
         let body : written word (append_f (els ws at n) (call_block x (queue ws at n))) ≡ w = written_append word (els ws at n) (call_block x (queue ws at n)) ∙ cc (block_written word x (queue ws at n)) in
         let same : written (under word (plan ws at n).outer none) (els ws at n) ≡ written word (els ws at n) = unfold under in refl in
@@ -213,13 +216,13 @@ module _ (ws : List ℕ) (at n : ℕ) (f : ClassFacts ws at n) (e : is_decorated
       silent_block = rw (e, q) (and-false (has_private_in (rk ws at)))
 
       silent_plan : (plan ws at n).inner ≡ id_symbol (id_label ws at n)
-      silent_plan = named_plan.0 ∙ ap (either (id_symbol (id_label ws at n))) (f.default q) ∙ either_none (id_symbol (id_label ws at n))
+      silent_plan = named_plan.0 ∙ ap (option_or (id_symbol (id_label ws at n))) (f.default q) ∙ or_none (id_symbol (id_label ws at n))
 
       silent_class : written word (tree (class_label ws at n) (parts ws at n)) ≡ class_words ws at n word
       silent_class =
           let i : Option Label = id_label ws at n in
-          let flags : (class_label ws at n).payload ≡ (class_label ws at n).payload + one (not (is_some (id_of (rk ws at))) && is_some (plan ws at n).inner) =
-          omega (arith, same_flags (id_symbol i), ap (λ (x : Option ℕ). one (not (is_some x) && is_some (plan ws at n).inner)) f.ids, ap (λ (x : Option ℕ). one (not (is_some (id_symbol i)) && is_some x)) silent_plan) in
+          let flags : (class_label ws at n).payload ≡ (class_label ws at n).payload + from_bool (not (is_some (id_of (rk ws at))) && is_some (plan ws at n).inner) =
+          omega (arith, same_flags (id_symbol i), ap (λ (x : Option ℕ). from_bool (not (is_some x) && is_some (plan ws at n).inner)) f.ids, ap (λ (x : Option ℕ). from_bool (not (is_some (id_symbol i)) && is_some x)) silent_plan) in
           let none-behind : append_f (els ws at n) (call_block false (queue ws at n)) ≡ els ws at n = unfold call_block in append_f_end (els ws at n) in
           let body : word 29 (body_label ws at n).payload ∷ written word (els ws at n) ≡ body_words ws at n word = cc (undecorated_body false silent_block, none-behind, f.payload, f.count) in
           ap (λ (g : Trees). written word (tree (class_label ws at n) g)) (bare_class i (body_label ws at n) (els ws at n))
@@ -238,12 +241,12 @@ module _ (ws : List ℕ) (at n : ℕ) (f : ClassFacts ws at n) (e : is_decorated
           let c : Label = class_label ws at n in
           let i : Option Label = id_label ws at n in
           let x : Option ℕ = (at_end ws at n).default in
-          let flags : ℕ = one (not (is_some (id_symbol i)) && is_some (either (id_symbol i) x)) in
+          let flags : ℕ = from_bool (not (is_some (id_symbol i)) && is_some (option_or (id_symbol i) x)) in
           let more : Trees = call_block (has_private_in (rk ws at)) (queue ws at n) in
           let new : Trees = append_f (els ws at n) more in
           let d : Label = decorators_label ws at n in
           let b : Label = body_label ws at n in
-          let same : c.payload + flags ≡ c.payload + one (not (is_some (id_of (rk ws at))) && is_some (plan ws at n).inner) = cc (f.ids, named_plan.0) in
+          let same : c.payload + flags ≡ c.payload + from_bool (not (is_some (id_of (rk ws at))) && is_some (plan ws at n).inner) = cc (f.ids, named_plan.0) in
           ap (λ (y : Option ℕ). written word (extend_body more (name_class y x c (parts ws at n)))) f.ids
           ∙ ap (λ (g : Trees). written word (extend_body more g)) (name_parts c d (ds ws at n) i (heritage ws at n) b (els ws at n) f.dk f.bk f.ik f.hk x)
           ∙ ap (written word) (extend_parts (repay c (c.payload + flags)) d (ds ws at n) (name_id x i) (heritage ws at n) b (els ws at n) f.dk f.bk (name_is x i f.ik) f.hk more)

@@ -2,11 +2,13 @@
 use Rattle.std.specs.Prelude.{◌≡◌, Bool, true, false, ◌&&◌, ℕ}
 use Rattle.std.proofs.Math.Path.{refl}
 use Rattle.std.proofs.Common.{sym, ◌∙◌, arith}
-use Rattle.std.proofs.Math.Option.{Option}
+use Rattle.std.specs.declared.option.Option.{Option}
 use Rattle.records.specs.Forest.{end, node, append_f}
 use Rattle.records.specs.Label.{Label, Trees, ◌∶◌}
 use Rattle.rewriting.specs.Parts.{tree, is_empty, Role, module', list, statement, expression, method, constructor, plain, field, role_of, decorators, decorators_of, bare_method, bare_field, is_decorated_member, is_decorated, is_live, class_kids}
-use Rattle.rewriting.specs.Visit.{Around, State, Result, member_call, called₁, called₂, member_if, member, kept, dead_class, decorated₁, decorated₂, live_class_if, live_class, class_if, own, since, work, inside, entering, join, ◌then◌, visit}
+use Rattle.rewriting.specs.Visit.{Result, member_call, called₁, called₂, member_if, member, kept, dead_class, decorated₁, decorated₂, live_class_if, live_class, class_if, own, since, work, inside, entering, join, ◌then◌, visit}
+use Rattle.rewriting.specs.declared.Around.{Around}
+use Rattle.rewriting.specs.declared.State.{State}
 
 pub empty_append : (f g : Trees) → is_empty (append_f f g) ≡ (is_empty f && is_empty g)
 unfolding is_empty append_f

@@ -14,7 +14,9 @@ use Rattle.grammar.specs.WellFormed.{Allowed, Fits}
 use Rattle.grammar.proofs.Children.{allowed_sole}
 use Rattle.grammar.proofs.Rows.{sole_kind, allowed_row}
 use Rattle.rewriting.specs.Parts.{tree, is_empty, kids_of, change_kids, decorators, undecorate, parameters_of, bare_parameters, bare_method, is_member, is_plain_key, first_is_plain, has_plain_key}
-use Rattle.rewriting.specs.Visit.{Around, State, Result, visit}
+use Rattle.rewriting.specs.Visit.{Result, visit}
+use Rattle.rewriting.specs.declared.Around.{Around}
+use Rattle.rewriting.specs.declared.State.{State}
 use Rattle.walk_laws.specs.Rows.{visit_at, here_add, after_add, kids_visit, plain_here, plain_after}
 use Rattle.walk_laws.specs.Slots.{Standing, standing_at, RowFits, kind_row, same_row, row_first}
 use Rattle.walk_laws.specs.Kinds.{kids_count}

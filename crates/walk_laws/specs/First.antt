@@ -12,7 +12,9 @@ use Rattle.grammar.specs.Grammar.{Element, element, Row, row, no_row, table, row
 use Rattle.grammar.specs.WellFormed.{Allowed, Fits}
 use Rattle.grammar.proofs.Rows.{each, each_row, implied, allowed_row}
 use Rattle.rewriting.specs.Parts.{method, constructor, role_of, tree, recount, of_parameters, parameters_of, bare_method, is_constructor, has_constructor, first_constructor, bare_first}
-use Rattle.rewriting.specs.Visit.{Around, State, Result, kept, own, since, work, inside, entering, join, ◌then◌, visit, visit_one, visit_node}
+use Rattle.rewriting.specs.Visit.{Result, kept, own, since, work, inside, entering, join, ◌then◌, visit, visit_one, visit_node}
+use Rattle.rewriting.specs.declared.Around.{Around}
+use Rattle.rewriting.specs.declared.State.{State}
 use Rattle.walk_laws.specs.Rows.{visit_at, one_here, here_add, kids_visit}
 use Rattle.walk_laws.specs.Slots.{Standing, RowFits, same_row}
 use Rattle.walk_laws.specs.Single.{Stays, one_stays, keeps, row_nth}

@@ -3,7 +3,7 @@ use Rattle.std.specs.Prelude.{◌≡◌, refl, Bool, ◌&&◌, ◌||◌, cond, �
 use Rattle.std.proofs.Math.Path.{ap, subst}
 use Rattle.std.proofs.Common.{sym, ◌∙◌, arith}
 use Rattle.std.proofs.Math.Bool.{true, false, and-false}
-use Rattle.std.proofs.Math.Option.{Option}
+use Rattle.std.specs.declared.option.Option.{Option}
 use mathlib.Core.List.{List, [], ◌∷◌}
 use Rattle.std.proofs.Math.Dec.{eqb}
 use borrow.Author.Tests.{eqb-true, eq-eqb, ne_eqb}
@@ -17,7 +17,9 @@ use Rattle.grammar.specs.WellFormed.{Fits}
 use Rattle.grammar.proofs.Children.{allowed_sole}
 use Rattle.grammar.proofs.Rows.{sole_kind}
 use Rattle.rewriting.specs.Parts.{Role, module' as module_role, list, method, constructor, plain, field, role_of, is_member, is_decorated_member, has_plain_key, class_kids}
-use Rattle.rewriting.specs.Visit.{Around, State, visit, visit_one}
+use Rattle.rewriting.specs.Visit.{visit, visit_one}
+use Rattle.rewriting.specs.declared.Around.{Around}
+use Rattle.rewriting.specs.declared.State.{State}
 use Rattle.walk_laws.specs.Slots.{Standing, standing_at, RowFits, kind_row, arity_slots, row_first, fits_count}
 use Rattle.walk_laws.specs.Roles.{role_30, role_31, role_32, no_member_lem}
 use Rattle.walk_laws.specs.After.{member_after, after_plain, after_list, after_module, after_constructor, after_method, after_field}

@@ -12,7 +12,9 @@ use Rattle.records.specs.Place.{records_at, label_at, arity_at, kids_at, end_of}
 use Rattle.grammar.specs.Grammar.{module'}
 use Rattle.grammar.specs.WellFormed.{Fits}
 use Rattle.rewriting.specs.Parts.{tree, role_of, decorators_of, undecorate, bare_parameters, bare_method, bare_field, is_member, is_constructor, is_decorated_member, has_plain_key}
-use Rattle.rewriting.specs.Visit.{Around, State, Result, Taken, class_symbol, name_if, name_of, with_key, called₁, called₂, member_if, member, since, visit, visit_one}
+use Rattle.rewriting.specs.Visit.{Result, Taken, class_symbol, name_if, name_of, with_key, called₁, called₂, member_if, member, since, visit, visit_one}
+use Rattle.rewriting.specs.declared.Around.{Around}
+use Rattle.rewriting.specs.declared.State.{State}
 use Rattle.walk_laws.specs.Rows.{visit_at, plain_here}
 use Rattle.walk_laws.specs.Written.{word_by, written, written_end, written_node, written_tree}
 use Rattle.walk_laws.specs.Roles.{is_kind, kind_is, plain_37, constructor_kind, bare_by, descriptor_by, member_one}

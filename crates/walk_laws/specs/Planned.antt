@@ -1,9 +1,12 @@
 -- The parts of a live class's statement as rules 6 to 10 make them, by its symbols: the words of each, how many each counts. Assumes nothing.
-use Rattle.std.specs.Prelude.{◌≡◌, Bool, ◌&&◌, not, cond, eqb}
+use Rattle.std.specs.Prelude.{◌≡◌, Bool, ◌&&◌, not, cond, eqb, is_some}
 use Rattle.std.proofs.Math.Path.{refl, ap, sym}
 use Rattle.std.proofs.Common.{◌∙◌, add-zero, add-one}
 use Rattle.std.proofs.Math.Bool.{true, false}
-use Rattle.std.proofs.Math.Option.{Option, none, some}
+use Rattle.std.specs.Int.{from_bool}
+use Rattle.std.specs.Option.{option_or}
+use Rattle.std.specs.declared.option.Option.{Option}
+use Rattle.std.specs.declared.option.Option.TheVariants.{None as none, Some as some}
 use mathlib.Core.List.{List, [], ◌∷◌, ◌++◌, append_assoc}
 use Prim.Native.Nat.{ℕ, zero, suc, ◌+◌}
 use native.Mathlib.Omega.{arith}
@@ -11,13 +14,14 @@ use Rattle.std.proofs.Math.Dec.{eqb-suc-zero}
 use Rattle.records.specs.Forest.{end, node, append_f, count_f, any_f, count_f_append, count_f_map}
 use Rattle.records.specs.Label.{Label, Trees, ◌∶◌, repay, become}
 use Rattle.rewriting.specs.Parts.{tree, decorators, undecorate, with_elements, elements_of, id_of, has_private_in, has_static, first_constructor, bare_first}
-use Rattle.rewriting.specs.Visit.{State, array, is_ref, to_alias, renamed, Symbols, named_symbols, symbols_of, aliased, assignment, let_alias, block_alias, alias_block, call_block, queued, export, with_id, decorated_statement, decorated₁, decorated₂, name_class, extend_body, live_class_if}
+use Rattle.rewriting.specs.Visit.{array, is_ref, to_alias, renamed, Symbols, named_symbols, symbols_of, aliased, assignment, let_alias, block_alias, alias_block, call_block, queued, export, with_id, decorated_statement, decorated₁, decorated₂, name_class, extend_body, live_class_if}
+use Rattle.rewriting.specs.declared.State.{State}
 use Rattle.walk_laws.specs.After.{mentioned}
 use Rattle.walk_laws.specs.Written.{word_by, written, written_end, written_node, written_append, written_tree}
 use Rattle.walk_laws.specs.Alias.{alias_written, first_alias, bare_first_alias}
 use Rattle.walk_laws.specs.ClassParts.{id_tree, id_symbol, class_parts, Without, IsId, class_elements, class_with, class_undecorate, give_id, name_id, give_class, name_class_lem, parts_written, count_bare_first}
 use Rattle.walk_laws.specs.Calls.{symbol_of}
-use Rattle.walk_laws.specs.ClassPlan.{Plan, either, decorated_plan, under, optional, block_words, export_words, is_some, one}
+use Rattle.walk_laws.specs.ClassPlan.{Plan, decorated_plan, under, optional, block_words, export_words}
 
 -- ---- the words of each part
 
@@ -69,7 +73,7 @@ module _ (word : ℕ → ℕ → ℕ) where
 
   -- rules 8 and 9: the blocks in front of the elements and behind them
   front_written : (alias : Option ℕ) (static : Bool) → written word (alias_block (block_alias alias static)) ≡ cond (is_some alias && static) (block_words word alias) []
-  unfolding alias_block block_alias is_some block_words tree word_by ◌∶◌
+  unfolding alias_block block_alias block_words tree word_by ◌∶◌
   front_written none true = written_end word
   front_written none false = written_end word
   front_written (some b) false = written_end word
@@ -104,15 +108,15 @@ module _ (word : ℕ → ℕ → ℕ) where
       written_tree word c _
       ∙ cc (parts_written word (repay d 0) end i h b els, kind_word 26 c ck, kind_word 28 (repay d 0) dk, kind_word 29 b bk, written_end word, id_written i ik)
 
-front_count : (alias : Option ℕ) (static : Bool) → count_f (alias_block (block_alias alias static)) ≡ one (is_some alias && static)
-unfolding alias_block block_alias is_some one tree count_f
+front_count : (alias : Option ℕ) (static : Bool) → count_f (alias_block (block_alias alias static)) ≡ from_bool (is_some alias && static)
+unfolding alias_block block_alias tree count_f
 front_count none true = refl
 front_count none false = refl
 front_count (some b) true = refl
 front_count (some b) false = refl
 
-pub block_count : (private : Bool) (calls : Trees) → count_f (call_block private calls) ≡ one private
-unfolding call_block one tree count_f
+pub block_count : (private : Bool) (calls : Trees) → count_f (call_block private calls) ≡ from_bool private
+unfolding call_block tree count_f
 block_count true calls = refl
 block_count false calls = refl
 
@@ -121,8 +125,8 @@ unfolding queued count_f
 queued_count true f = refl
 queued_count false f = refl
 
-pub export_count : (p c : ℕ) → count_f (export p c) ≡ one (not (eqb p 0))
-unfolding export one tree count_f
+pub export_count : (p c : ℕ) → count_f (export p c) ≡ from_bool (not (eqb p 0))
+unfolding export tree count_f
 export_count zero c = refl
 export_count (suc zero) c = refl
 export_count (suc (suc p)) c = rw (eqb-suc-zero (suc p))
@@ -155,7 +159,7 @@ unfoldable pub elements_by : Bool → Bool → ℕ → Option ℕ → Trees → 
 elements_by private static c alias els calls = append_f (alias_block (block_alias alias static)) (append_f (bare_first (renamed c alias els)) (call_block private calls))
 
 module _ (private static : Bool) (c : ℕ) (alias : Option ℕ) (els calls : Trees) where
-  pub body_count : count_f (elements_by private static c alias els calls) ≡ count_f els + (one (is_some alias && static) + one private)
+  pub body_count : count_f (elements_by private static c alias els calls) ≡ count_f els + (from_bool (is_some alias && static) + from_bool private)
   unfolding elements_by
   body_count =
       let a : Trees = alias_block (block_alias alias static) in
@@ -211,13 +215,13 @@ give_plan none t m = refl
 give_plan (some i) t m = refl
 
 -- a decorated class has an id if it had one
-pub flags_plan : (id : Option ℕ) (t : State) (m : Bool) → one (not (is_some id) && is_some (decorated_plan id t m).inner) ≡ 0
-unfolding decorated_plan is_some one
+pub flags_plan : (id : Option ℕ) (t : State) (m : Bool) → from_bool (not (is_some id) && is_some (decorated_plan id t m).inner) ≡ 0
+unfolding decorated_plan
 flags_plan none t m = refl
 flags_plan (some c) t m = refl
 
-pub name_plan : (d : Option ℕ) (i : Option Label) → id_symbol (name_id d i) ≡ either (id_symbol i) d
-unfolding id_symbol name_id either ◌∶◌
+pub name_plan : (d : Option ℕ) (i : Option Label) → id_symbol (name_id d i) ≡ option_or (id_symbol i) d
+unfolding id_symbol name_id ◌∶◌
 name_plan d (some i) = refl
 name_plan none none = refl
 name_plan (some n) none = refl
@@ -231,17 +235,17 @@ module _ (c d : Label) (ds : Trees) (i : Option Label) (h : Trees) (b : Label) (
       go (some i) = unfold id_symbol decorated_plan in give_class d ds h b els t.next i
 
   pub name_parts : (n : Option ℕ) → name_class (id_symbol i) n c (class_parts d ds i h b els) ≡
-      tree (repay c (c.payload + one (not (is_some (id_symbol i)) && is_some (either (id_symbol i) n)))) (class_parts d ds (name_id n i) h b els)
+      tree (repay c (c.payload + from_bool (not (is_some (id_symbol i)) && is_some (option_or (id_symbol i) n)))) (class_parts d ds (name_id n i) h b els)
   name_parts n = go i n
     where
       same : (f : Trees) → tree c f ≡ tree (repay c (c.payload + 0)) f
       same f = unfold repay in rw (add-zero c.payload)
 
       go : (i : Option Label) (n : Option ℕ) → name_class (id_symbol i) n c (class_parts d ds i h b els) ≡
-          tree (repay c (c.payload + one (not (is_some (id_symbol i)) && is_some (either (id_symbol i) n)))) (class_parts d ds (name_id n i) h b els)
-      go (some i) n = unfold id_symbol name_class is_some one name_id in same (class_parts d ds (some i) h b els)
-      go none none = unfold id_symbol name_class either is_some one name_id in same (class_parts d ds none h b els)
-      go none (some n) = unfold id_symbol either is_some one in name_class_lem d ds h b els n c ∙ rw (add-one c.payload)
+          tree (repay c (c.payload + from_bool (not (is_some (id_symbol i)) && is_some (option_or (id_symbol i) n)))) (class_parts d ds (name_id n i) h b els)
+      go (some i) n = unfold id_symbol name_class name_id in same (class_parts d ds (some i) h b els)
+      go none none = unfold id_symbol name_class name_id in same (class_parts d ds none h b els)
+      go none (some n) = unfold id_symbol in name_class_lem d ds h b els n c ∙ rw (add-one c.payload)
 
   -- with other elements and its decorators gone
   pub bare_parts : (new : Trees) → with_elements new (undecorate (class_parts d ds i h b els)) ≡ class_parts (repay d 0) end i h (repay b (count_f new)) new

@@ -4,7 +4,7 @@ use Rattle.std.proofs.Math.Path.{refl}
 use Rattle.std.proofs.Common.{ap, ◌∙◌, true≢false, eqb-true, eq-eqb}
 use Rattle.std.proofs.Math.Bool.{and-false}
 use Rattle.std.proofs.lemmas.Bool.{false≢true, not-true}
-use Rattle.std.proofs.Math.Option.{Option}
+use Rattle.std.specs.declared.option.Option.{Option}
 use Rattle.words.specs.Table.{lookup}
 use Rattle.records.specs.Forest.{end, node, take_f, append_f}
 use Rattle.records.specs.Label.{Label, Origin, Trees, ◌∶◌, is}
@@ -13,7 +13,9 @@ use Rattle.grammar.specs.Grammar.{Slot, Class, Body, Element, Run, Row, row, no_
 use Rattle.grammar.specs.WellFormed.{Allowed, Fits}
 use Rattle.grammar.proofs.Rows.{each, each_row, test_left, test_right, implied, allowed_row}
 use Rattle.rewriting.specs.Parts.{Role, module', list, statement, expression, method, constructor, plain, field, role_of, decorators, decorators_of, bare_method, bare_field, is_member, is_decorated_member, is_decorated, is_live, class_kids}
-use Rattle.rewriting.specs.Visit.{Around, State, Result, member_if, member, decorated₁, decorated₂, live_class_if, live_class, dead_class, class_if, kept, own, since, work, inside, entering, join, ◌then◌, visit, visit_one, visit_node}
+use Rattle.rewriting.specs.Visit.{Result, member_if, member, decorated₁, decorated₂, live_class_if, live_class, dead_class, class_if, kept, own, since, work, inside, entering, join, ◌then◌, visit, visit_one, visit_node}
+use Rattle.rewriting.specs.declared.Around.{Around}
+use Rattle.rewriting.specs.declared.State.{State}
 use Rattle.walk_laws.specs.Rows.{visit_at}
 use Rattle.walk_laws.specs.Slots.{Standing, RowFits}
 use Rattle.walk_laws.specs.Single.{T_true}

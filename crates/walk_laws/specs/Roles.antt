@@ -7,7 +7,9 @@ use Rattle.words.specs.Table.{lookup}
 use Rattle.words.specs.Word.{bit1}
 use Rattle.records.specs.Label.{Label, Trees, ◌∶◌, is, bit}
 use Rattle.rewriting.specs.Parts.{list, statement, expression, method, constructor, plain, field, role_of, is_empty, decorators_of, bare_method, bare_field, is_constructor, is_member, is_decorated_member}
-use Rattle.rewriting.specs.Visit.{Around, State, member, own, since, work, inside, entering, visit, visit_one}
+use Rattle.rewriting.specs.Visit.{member, own, since, work, inside, entering, visit, visit_one}
+use Rattle.rewriting.specs.declared.Around.{Around}
+use Rattle.rewriting.specs.declared.State.{State}
 
 pub is_kind : (l : Label) (k : ℕ) → l.kind ≡ k → is k l ≡ true
 unfolding is

@@ -2,12 +2,14 @@
 use Rattle.std.specs.Prelude.{◌≡◌, List, [], ◌++◌, ℕ, ◌+◌, ◌<◌, ◌≤◌, length}
 use Rattle.std.proofs.Math.Path.{refl, ap}
 use Rattle.std.proofs.Common.{sym, ◌∙◌}
-use Rattle.std.proofs.Math.Option.{none}
+use Rattle.std.specs.declared.option.Option.TheVariants.{None as none}
 use Rattle.records.specs.Forest.{end, take_f, drop_f, append_f, take_f_add, take_f_end, append_f_end}
 use Rattle.records.specs.Label.{Label, Trees}
 use Rattle.records.specs.Place.{records_at, label_at, arity_at, kids_at, end_of, end_drop, record_one, records_past}
 use Rattle.rewriting.specs.Parts.{plain, role_of, tree}
-use Rattle.rewriting.specs.Visit.{Around, State, Result, visit, visit_one, visit_node, join, ◌then◌, work, since, own, kept, inside, entering, signed_by}
+use Rattle.rewriting.specs.Visit.{Result, visit, visit_one, visit_node, join, ◌then◌, work, since, own, kept, inside, entering, signed_by}
+use Rattle.rewriting.specs.declared.Around.{Around}
+use Rattle.rewriting.specs.declared.State.{State}
 use Rattle.rewriting.proofs.Facts.{visit_append}
 
 -- the visit of the k records at `at`

@@ -2,7 +2,7 @@
 use Rattle.std.specs.Prelude.{◌≡◌, refl, Bool, true, false, ◌&&◌, cond, List, ℕ, zero, suc, ◌<◌, eqb, T, length, replicate}
 use Rattle.std.proofs.Common.{ap, sym, subst, ◌∙◌, arith, eq-eqb}
 use Rattle.std.proofs.lemmas.Bool.{false≢true}
-use Rattle.std.proofs.Math.Option.{Option}
+use Rattle.std.specs.declared.option.Option.{Option}
 use Rattle.words.specs.Table.{lookup}
 use Rattle.records.specs.Label.{Label, Origin, Trees, ◌∶◌}
 use Rattle.records.specs.Place.{label_at, kids_at, end_of, end_none, end_add}
@@ -10,7 +10,9 @@ use Rattle.grammar.specs.Grammar.{Slot, Expression, Row, row, no_row, table, row
 use Rattle.grammar.specs.WellFormed.{Allowed}
 use Rattle.grammar.proofs.Rows.{each, each_row, implied, allowed_row}
 use Rattle.rewriting.specs.Parts.{Role, module', list, statement, expression, method, constructor, plain, field, role_of, tree, decorators, decorators_of, bare_method, bare_field, is_decorated_member}
-use Rattle.rewriting.specs.Visit.{Around, State, Result, kept, dead_class, called₁, called₂, member_if, member, own, since, work, inside, entering, visit, visit_one}
+use Rattle.rewriting.specs.Visit.{Result, kept, dead_class, called₁, called₂, member_if, member, own, since, work, inside, entering, visit, visit_one}
+use Rattle.rewriting.specs.declared.Around.{Around}
+use Rattle.rewriting.specs.declared.State.{State}
 use Rattle.walk_laws.specs.Rows.{visit_at, one_here}
 use Rattle.walk_laws.specs.Slots.{RowFits, row_first}
 

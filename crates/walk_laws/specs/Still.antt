@@ -3,7 +3,7 @@ use Rattle.std.specs.Prelude.{◌≡◌, Bool, ◌&&◌, ◌||◌, List, [], ◌
 use Rattle.std.proofs.Math.Path.{refl, ap, sym, subst}
 use Rattle.std.proofs.Common.{◌∙◌, true≢false}
 use Rattle.std.proofs.Math.Bool.{true, false, not, cond, and-false, or-false}
-use Rattle.std.proofs.Math.Option.{none}
+use Rattle.std.specs.declared.option.Option.TheVariants.{None as none}
 use Prim.Native.Nat.{ℕ, zero, suc, ◌+◌, ◌-◌, ◌<◌, ◌≤◌}
 use native.Mathlib.Omega.{arith}
 use Rattle.std.proofs.Math.Dec.{ltb}
@@ -19,7 +19,9 @@ use Rattle.grammar.specs.WellFormed.{Allowed, Fits}
 use Rattle.grammar.proofs.Children.{allowed_sole}
 use Rattle.grammar.proofs.Rows.{length_below, sole_kind}
 use Rattle.rewriting.specs.Parts.{Role, module', list, statement, expression, method, constructor, plain, field, role_of, tree, recount, is_empty, kids_of, change_kids, any_record, decorators, undecorate, parameters_of, indexed, of_parameters, bare_parameters, decorators_of, bare_method, bare_field, is_member, is_decorated_member, is_decorated, is_live, id_of, class_kids}
-use Rattle.rewriting.specs.Visit.{Around, State, Result, signed, member, member_if, undecorated_if, live_class_if, live_class, dead_class, class_if, kept, own, since, signed_by, work, inside, entering, join, ◌then◌, visit, visit_one, visit_node}
+use Rattle.rewriting.specs.Visit.{Result, signed, member, member_if, undecorated_if, live_class_if, live_class, dead_class, class_if, kept, own, since, signed_by, work, inside, entering, join, ◌then◌, visit, visit_one, visit_node}
+use Rattle.rewriting.specs.declared.Around.{Around}
+use Rattle.rewriting.specs.declared.State.{State}
 use Rattle.walk_laws.specs.Slots.{fits_count, Standing, standing_at}
 use Rattle.walk_laws.specs.Rows.{visit_at}
 use Rattle.walk_laws.specs.Roles.{role_4, role_20, role_30, role_31, role_32}

@@ -12,7 +12,9 @@ use Rattle.grammar.specs.WellFormed.{Allowed, Fits}
 use Rattle.grammar.proofs.Children.{allowed_sole}
 use Rattle.grammar.proofs.Rows.{sole_kind, allowed_row}
 use Rattle.rewriting.specs.Parts.{kids_of, is_member, is_decorated_member, elements_of}
-use Rattle.rewriting.specs.Visit.{Around, State, Result, visit, visit_one}
+use Rattle.rewriting.specs.Visit.{Result, visit, visit_one}
+use Rattle.rewriting.specs.declared.Around.{Around}
+use Rattle.rewriting.specs.declared.State.{State}
 use Rattle.walk_laws.specs.Rows.{visit_at, one_after}
 use Rattle.walk_laws.specs.Slots.{Standing, standing_at}
 use Rattle.walk_laws.specs.Single.{T_true}

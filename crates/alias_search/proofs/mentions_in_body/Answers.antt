@@ -1,8 +1,9 @@
--- `mentions_in_body`: the elements are the children of the class's 29.
+-- `mentions_in_body`: in the class's elements.
+use mathlib.Core.Path.{◌∙◌}
 use Rattle.alias_search.specs.Mentions.{mentions}
-use Rattle.inspect.specs.Child.{kids_row}
-use mathlib.Core.Path.{ap, ◌∙◌}
+use Rattle.alias_search.specs.Walk.{all_reads}
 use Rattle.alias_search.proofs.mentions_in_body.Goals as goal
 
 pub returns : goal.returns
-returns c = c.mentions.ensures ∙ ap (mentions c.args.c) (kids_row c.args.ws.now c.body-b.result c.children_at.result c.children_at.ensures.0 ∙ c.body-b.ensures.0)
+unfolding mentions
+returns c = c.mentions.ensures ∙ all_reads c.args.c c.elements.ensures.0

@@ -1,38 +1,27 @@
 -- `mentions_word`: by kind; a class statement by its class.
-use Rattle.alias_search.specs.Walk.{no_word, word_9, word_18, statement_word}
-use Rattle.inspect.specs.Child.{kind_within}
-use Rattle.alias_search.specs.Mentions.{names}
-use Rattle.records.specs.Place.{label_at, kids_at}
-use lib.Dec.{eqb}
-use Prim.Native.Nat.{◌+◌}
-use native.Mathlib.Omega.{arith}
-use mathlib.Core.Bool.{Bool, ◌&&◌}
 use mathlib.Core.Path.{ap, sym, ◌∙◌}
+use native.Mathlib.Omega.{arith}
+use Prim.Native.Nat.{ℕ}
+use lib.Dec.{eqb}
+use Rattle.std.proofs.Common.{rules}
+use Rattle.inspect.specs.Child.{kind_within}
+use Rattle.alias_search.specs.Walk.{no_word, statement_word, word_named}
 use Rattle.alias_search.proofs.mentions_word.Goals as goal
 
-pub returns-then-k-eq9 : goal.returns-then-k-eq9
-returns-then-k-eq9 c =
-    let ws = c.args.ws.now in
-    ap (λ n. eqb n c.args.c) c.payload_at.ensures.0 ∙ sym (word_9 c.args.c (label_at ws c.args.at) (kids_at ws c.args.at) (sym c.kind_at-k.ensures ∙ c.if-k-eq9.true))
-
-pub returns-then-k-eq18 : goal.returns-then-k-eq18
-returns-then-k-eq18 c =
-    let ws = c.args.ws.now in
-    ap (λ n. eqb n c.args.c) c.payload_at-then-k-eq18.ensures.0 ∙ sym (word_18 c.args.c (label_at ws c.args.at) (kids_at ws c.args.at) (sym c.kind_at-k.ensures ∙ c.if-k-eq18.true))
-
-pub returns-then-k-ne4 : goal.returns-then-k-ne4
-returns-then-k-ne4 c =
-    let ws = c.args.ws.now in
-    sym (no_word c.args.c (label_at ws c.args.at) (kids_at ws c.args.at) (λ e. c.if-k-eq9.false (c.kind_at-k.ensures ∙ e)) (λ e. c.if-k-eq18.false (c.kind_at-k.ensures ∙ e)) (λ e. c.if-k-ne4.true (c.kind_at-k.ensures ∙ e)))
-
 pub overflow_add-at : goal.overflow_add-at
-overflow_add-at c = omega (arith, kind_within c.args.ws.now c.args.at 3 (sym c.kind_at-k.ensures ∙ c.if-k-ne4.false))
+overflow_add-at c = omega (arith, kind_within c.args.ws.now c.args.at 3 (sym c.kind_at.ensures ∙ c.in-4.is))
 
-pub returns-then-not-is_live : goal.returns-then-not-is_live
-returns-then-not-is_live c = sym (statement_word c.args.c c.args.ws.now c.args.at (sym c.kind_at-k.ensures ∙ c.if-k-ne4.false) ∙ ap (λ (b : Bool). b && names c.args.c (kids_at c.args.ws.now (c.args.at + 1))) (sym c.is_live.ensures ∙ c.if-not-is_live.true))
+pub overflow_add-at-then-is_live : goal.overflow_add-at-then-is_live
+overflow_add-at-then-is_live c = omega (arith, kind_within c.args.ws.now c.args.at 3 (sym c.kind_at.ensures ∙ c.in-4.is))
 
-pub overflow_add-at-2 : goal.overflow_add-at-2
-overflow_add-at-2 c = omega (arith, kind_within c.args.ws.now c.args.at 3 (sym c.kind_at-k.ensures ∙ c.if-k-ne4.false))
+pub returns-then-is_live : goal.returns-then-is_live
+returns-then-is_live c = rw (statement_word c.args.c c.args.ws.now c.args.at (sym c.kind_at.ensures ∙ c.in-4.is)) (search rules)
 
-pub returns : goal.returns
-returns c = c.names.ensures ∙ sym (statement_word c.args.c c.args.ws.now c.args.at (sym c.kind_at-k.ensures ∙ c.if-k-ne4.false) ∙ ap (λ (b : Bool). b && names c.args.c (kids_at c.args.ws.now (c.args.at + 1))) (sym c.is_live.ensures ∙ c.if-not-is_live.false))
+pub returns-else-is_live : goal.returns-else-is_live
+returns-else-is_live c = rw (statement_word c.args.c c.args.ws.now c.args.at (sym c.kind_at.ensures ∙ c.in-4.is)) (search rules)
+
+pub returns-in-9 : goal.returns-in-9
+returns-in-9 c = ap (λ (p : ℕ). eqb p c.args.c) c.payload_at.ensures.0 ∙ sym (word_named c.args.c _ _ (rw c.kind_at.ensures at c.in-9.is))
+
+pub returns-in_default : goal.returns-in_default
+returns-in_default c = sym (no_word c.args.c _ _ (λ e. grind arith) (λ e. grind arith) (λ e. omega arith))

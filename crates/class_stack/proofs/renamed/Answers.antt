@@ -1,20 +1,17 @@
 -- `renamed`: the entries before i are left for x.
-use mathlib.Core.Path.{◌≡◌, refl, ap, sym, ◌∙◌, subst}
+use mathlib.Core.Path.{◌≡◌, ap, sym, ◌∙◌, subst}
 use Prim.Native.Nat.{ℕ, ◌<◌}
 use native.Mathlib.Omega.{arith}
 use Rattle.class_stack.specs.Entries.{rename_step}
 use Rattle.class_stack.specs.Renaming.{entries, rename_p, swapped_small}
 use Rattle.class_stack.proofs.renamed.Goals as goal
 
-pub loop-i-init : goal.loop-i-init
-loop-i-init c = (c.requires.0.room, c.requires.1, refl)
-
 pub loop-i-preserved : goal.loop-i-preserved
 loop-i-preserved c =
     let l = c.loop-i in
     let s = c.args.s in
-    let small : c.swap-x.result < 67108864 = subst (λ (n : ℕ). n < 67108864) (sym c.swap-x.ensures) (swapped_small _ l.x 67108864 l.invariant.1 (c.requires.0.aliases.small _)) in
-    (omega arith, small, rename_step s.symbols s.aliases l.i l.x c.swap-x.result c.loop-i-test.true c.swap-x.ensures ∙ l.invariant.2)
+    let small : c.swap-x.result < 67108864 = subst (λ (n : ℕ). n < 67108864) (sym c.swap-x.ensures) (swapped_small _ l.x 67108864 l.invariant.0 (c.requires.0.aliases.small _)) in
+    (small, rename_step s.symbols s.aliases l.i l.x c.swap-x.result c.loop-i-test.true c.swap-x.ensures ∙ l.invariant.1)
 
 pub returns : goal.returns
 unfolding entries rename_p
@@ -22,4 +19,4 @@ returns c =
     let l = c.loop-i in
     let s = c.args.s in
     let e : l.i ≡ 0 = omega arith in
-    (ap (λ (n : ℕ). rename_p (entries s.symbols s.aliases n) l.x) (sym e) ∙ l.invariant.2, l.invariant.1)
+    (ap (λ (n : ℕ). rename_p (entries s.symbols s.aliases n) l.x) (sym e) ∙ l.invariant.1, l.invariant.0)

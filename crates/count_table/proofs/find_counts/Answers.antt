@@ -1,5 +1,5 @@
 -- `find_counts`: the invariant says that the notes from the place on are right, and where the next record stands that may change.
-use mathlib.Core.Path.{subst}
+use mathlib.Core.Path.{◌≡◌, subst}
 use native.Mathlib.Omega.{arith}
 use Rattle.counter.specs.Contract.{Annotated}
 use Rattle.count_table.specs.Note.{filled_start, filled_behind, filled_next, down}
@@ -7,9 +7,6 @@ use Rattle.count_table.proofs.find_counts.Goals as goal
 
 pub loop-i-init : goal.loop-i-init
 loop-i-init c = filled_start c.requires.planned
-
-pub overflow_sub-i : goal.overflow_sub-i
-overflow_sub-i c = omega (arith, c.loop-i-test.true)
 
 pub next_change-next-requires : goal.next_change-next-requires
 next_change-next-requires c =
@@ -19,22 +16,11 @@ next_change-next-requires c =
 pub note-requires : goal.note-requires
 note-requires c = (filled_behind c.requires (down c.loop-i.invariant c.loop-i-test.true), c.next_change-next.ensures)
 
-pub offset_bounds-notes-i : goal.offset_bounds-notes-i
-offset_bounds-notes-i c = omega (arith, c.loop-i.invariant.low, c.requires.few)
-
-pub bounds-notes-i : goal.bounds-notes-i
-bounds-notes-i c = omega (arith, c.loop-i.invariant.low, c.loop-i.invariant.planned.ends.long, c.loop-i-test.true)
-
-pub loop-i-smaller : goal.loop-i-smaller
-loop-i-smaller c = omega (arith, c.loop-i-test.true)
-
 pub loop-i-preserved : goal.loop-i-preserved
 loop-i-preserved c = filled_next _ _ (down c.loop-i.invariant c.loop-i-test.true) c.next_change-next.ensures c.note.ensures.0 c.note.ensures.1
-
-pub shape_of-notes : goal.shape_of-notes
-shape_of-notes c = c.loop-i.invariant.long
 
 pub returns : goal.returns
 returns c =
     let d = c.loop-i.invariant in
-    (d.planned, subst (Annotated c.args.ws.now _) c.loop-i-test.false d.noted, d.long)
+    let none : c.loop-i.i ≡ 0 = omega (arith, c.loop-i-test.false) in
+    (d.planned, subst (Annotated c.args.ws.now _) none d.noted, d.long)

@@ -4,6 +4,3 @@ use Rattle.count_table.proofs.find_counts.Given as goal
 
 abbrev pub invariant-loop-i : goal.invariant-loop-i
 invariant-loop-i l = Filled l.ws l.notes (length l.initial.notes) l.i l.next
-
-abbrev pub decreases-loop-i : goal.decreases-loop-i
-decreases-loop-i l = l.i

@@ -1,11 +1,10 @@
 use mathlib.Core.Bool.{false}
-use Prim.Native.Nat.{◌-◌, ◌≤◌}
+use mathlib.Core.Path.{◌≡◌}
+use Prim.Native.Nat.{◌≤◌}
 use lib.ListN.{length}
+use Rattle.std.specs.declared.option.Option.TheVariants.{None as none}
 use Rattle.counter.specs.Contract.{Totals, unlive}
 use Rattle.counter.proofs.total_noted.Given as goal
 
-abbrev pub invariant-loop-i : goal.invariant-loop-i
-invariant-loop-i l = (l.q ≤ length l.ws) × (l.i ≤ l.k) × Totals l.ws l.at l.i unlive false (record { at = l.q; count = l.n; default = 67108864 })
-
-abbrev pub decreases-loop-i : goal.decreases-loop-i
-decreases-loop-i l = l.k - l.i
+abbrev pub invariant-loop : goal.invariant-loop
+invariant-loop l = (l.t.at ≤ length l.ws) × Totals l.ws l.at l.counter unlive false l.t × (l.t.default ≡ none)

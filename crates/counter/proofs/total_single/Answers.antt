@@ -1,23 +1,34 @@
--- `total_single`: the note says all of a record without a mark.
-use Prim.Native.Nat.{◌%◌}
-use lib.ListN.{get_or}
+-- `total_single`: the note, but for an element of a live class that is marked.
+use mathlib.Core.Path.{refl, ap, sym, ◌∙◌}
 use native.Mathlib.Omega.{arith}
-use borrow.Author.Tests.{ne_eqb}
-use Rattle.counter.specs.Totals.{total_same, note_at, total_unmarked}
+use borrow.Author.Tests.{not-true, not-false}
+use Rattle.walk_laws.specs.Kinds.{is_element_kind}
+use Rattle.counter.specs.Contract.{is_walked}
+use Rattle.counter.specs.Totals.{kinds_apart, element_kind, total_same, note_at, total_dead, total_unmarked, total_quiet}
+use Rattle.counter.proofs.total_single.Goals.{then-not-note-via-then-not-note, then-not-note-via-else-not-note+then-not-a, in_default-via-then-kind_at-lt30, in_default-via-else-kind_at-lt30+else-this-lt33}
 use Rattle.counter.proofs.total_single.Goals as goal
 
-pub bounds-notes-at : goal.bounds-notes-at
-bounds-notes-at c = omega (arith, c.requires.0.ready.planned.ends.long, c.requires.1)
-
-pub returns-then-w-eq0 : goal.returns-then-w-eq0
-returns-then-w-eq0 c =
+pub returns-then-not-note : goal.returns-then-not-note
+returns-then-not-note c =
     let g = c.args in
     let p = c.requires in
     let e = c.from_note.ensures in
-    total_same _ (total_unmarked p.0 p.1 g.a g.has _ (note_at _ _ _ p.0.noted p.1) p.2 (ne_eqb (get_or g.notes.now g.at 0 % 2) 1 (λ z. omega (arith, z, c.if-w-eq0.true)))) e.0 e.1 e.2
+    elim c.then-not-note.branch [
+      | then-not-note-via-then-not-note w ↦ total_same _ (total_unmarked p.0 p.1 g.a g.has _ (note_at _ _ _ p.0.noted p.1) p.2 (not-true _ w.if-not-note.true)) e.0 e.1 e.2
+      | then-not-note-via-else-not-note+then-not-a w ↦ total_same _ (total_dead p.0 p.1 g.a g.has _ (note_at _ _ _ p.0.noted p.1) (not-true _ w.if-not-a.true)) e.0 e.1 e.2
+    ]
 
-pub total_marked-requires : goal.total_marked-requires
-total_marked-requires c = c.requires
+pub total_element-requires : goal.total_element-requires
+total_element-requires c = (c.requires.0, c.requires.1, ap is_element_kind (sym c.kind_at.ensures) ∙ element_kind _ (omega arith) (omega arith), not-false _ c.if-not-a.false)
 
-pub returns : goal.returns
-returns c = c.total_marked.ensures
+pub returns-in_default : goal.returns-in_default
+returns-in_default c =
+    let g = c.args in
+    let p = c.requires in
+    let e = c.from_note-in_default.ensures in
+    let k = c.kind_at.ensures in
+    total_same _ (total_quiet p.0 p.1 g.a g.has _ (note_at _ _ _ p.0.noted p.1) (λ e. kinds_apart is_walked 26 _ (unfold is_walked in refl) p.2 (sym e)) (λ e. kinds_apart is_walked 29 _ (unfold is_walked in refl) p.2 (sym e))
+    (λ e. elim c.in_default.branch [ in_default-via-then-kind_at-lt30 w ↦ omega (arith, k, e) | in_default-via-else-kind_at-lt30+else-this-lt33 w ↦ omega (arith, k, e) ])
+    (λ e. elim c.in_default.branch [ in_default-via-then-kind_at-lt30 w ↦ omega (arith, k, e) | in_default-via-else-kind_at-lt30+else-this-lt33 w ↦ omega (arith, k, e) ])
+    (λ e. elim c.in_default.branch [ in_default-via-then-kind_at-lt30 w ↦ omega (arith, k, e) | in_default-via-else-kind_at-lt30+else-this-lt33 w ↦ omega (arith, k, e) ]))
+    e.0 e.1 e.2

@@ -3,4 +3,4 @@ use Rattle.line_reader.specs.Text.{Ready}
 use Rattle.gingerpost.proofs.read_text.Given as goal
 
 abbrev pub invariant-loop : goal.invariant-loop
-invariant-loop g l = Ready l.ws l.r
+invariant-loop g l = Ready l.ws l.reading

@@ -1,70 +1,34 @@
--- `flags_hold`: an arm for each rule of `flag_rule`.
-use mathlib.Core.Path.{refl}
-use borrow.Author.Tests.{eq-eqb, ne_eqb, lt-ltb, le-ltb}
-use Rattle.grammar.specs.Grammar.{holds}
-use Rattle.grammar.specs.Sets.{flag_rule}
+-- `flags_hold`: where a slot has no arm of its own, its category and `SlotLaws` say what its context is.
+use Rattle.std.proofs.Common.{◌≡◌, ℕ, sym, ap, ◌∙◌, arith}
+use Rattle.std.proofs.lemmas.Bool.Decides.{nat_tests}
+use borrow.Author.Tests.{ne_eqb, lt-ltb, le-ltb}
+use Rattle.words.specs.Table.{lookup}
 use Rattle.words.specs.Word.{bit0, bit1}
-use Rattle.words.specs.Table.{lookup, lookup_miss}
+use Rattle.grammar.specs.Grammar.{row_of, table, row, holds}
+use Rattle.grammar.specs.Sets.{flag_rule}
+use Rattle.grammar.specs.Slots.{slot_of}
+use Rattle.grammar.proofs.SlotLaws.{not_own, no_id, of_function, not_in_context}
 use Rattle.grammar.proofs.flags_hold.Goals as goal
 
-pub returns-then-context-eq1 : goal.returns-then-context-eq1
-unfolding holds flag_rule lookup bit0 bit1
-returns-then-context-eq1 c = rw (c.in-4.is, eq-eqb _ _ c.if-context-eq1.true)
-
-pub returns-else-context-eq1 : goal.returns-else-context-eq1
-unfolding holds flag_rule lookup bit0 bit1
-returns-else-context-eq1 c = rw (c.in-4.is, ne_eqb _ _ c.if-context-eq1.false)
-
-pub returns-then-payload-eq2 : goal.returns-then-payload-eq2
-unfolding holds flag_rule lookup bit0 bit1
-returns-then-payload-eq2 c = rw (c.in-22.is, eq-eqb _ _ c.if-payload-eq2.true)
-
-pub returns-else-payload-eq2 : goal.returns-else-payload-eq2
-unfolding holds flag_rule lookup bit0 bit1
-returns-else-payload-eq2 c = rw (c.in-22.is, ne_eqb _ _ c.if-payload-eq2.false)
-
-pub returns-then-context-lt2 : goal.returns-then-context-lt2
-unfolding holds flag_rule lookup bit0 bit1
-returns-then-context-lt2 c = rw (c.in-26.is, lt-ltb _ _ c.if-payload-lt8.true, lt-ltb _ _ c.if-context-lt2.true)
-
-pub returns-else-context-lt2 : goal.returns-else-context-lt2
-unfolding holds flag_rule lookup bit0 bit1
-returns-else-context-lt2 c = rw (c.in-26.is, lt-ltb _ _ c.if-payload-lt8.true, le-ltb _ _ c.if-context-lt2.false)
-
-pub returns-else-payload-lt8 : goal.returns-else-payload-lt8
-unfolding holds flag_rule lookup bit0 bit1
-returns-else-payload-lt8 c = rw (c.in-26.is, le-ltb _ _ c.if-payload-lt8.false)
-
-pub returns-then-context-eq2 : goal.returns-then-context-eq2
-unfolding holds flag_rule lookup bit0 bit1
-returns-then-context-eq2 c = rw (c.in-28.is, eq-eqb _ _ c.if-context-eq2.true)
-
-pub returns-else-context-eq2 : goal.returns-else-context-eq2
-unfolding holds flag_rule lookup bit0 bit1
-returns-else-context-eq2 c = rw (c.in-28.is, ne_eqb _ _ c.if-context-eq2.false)
+pub returns-in_default-slot : goal.returns-in_default-slot
+unfolding row_of table row holds flag_rule lookup
+returns-in_default-slot c = rw (c.in-4.is, not_own c.args.slot (sym c.requires ∙ ap (λ (k : ℕ). (row_of k).category) c.in-4.is) c.in_default-slot.not-OwnStatement)
 
 pub returns-then-payload-lt8-2 : goal.returns-then-payload-lt8-2
-unfolding holds flag_rule lookup bit0 bit1
-returns-then-payload-lt8-2 c = rw (c.in-30.is, lt-ltb _ _ c.if-payload-lt8-2.true)
+unfolding row_of table row holds flag_rule lookup bit0 bit1
+returns-then-payload-lt8-2 c =
+    let x = no_id c.args.slot (sym c.requires ∙ ap (λ (k : ℕ). (row_of k).category) c.in-26.is) c.in_default-slot-2.not-PlainClass c.in_default-slot-2.not-ExportedClass in
+    rw (c.in-26.is, lt-ltb c.args.payload 8 c.if-payload-lt8-2.true, le-ltb (slot_of c.args.slot).context 2 x)
 
-pub returns-else-payload-lt8-2 : goal.returns-else-payload-lt8-2
-unfolding holds flag_rule lookup bit0 bit1
-returns-else-payload-lt8-2 c = rw (c.in-30.is, le-ltb _ _ c.if-payload-lt8-2.false)
+pub returns-in_default-slot-3 : goal.returns-in_default-slot-3
+unfolding row_of table row holds flag_rule lookup
+returns-in_default-slot-3 c =
+    let e : (slot_of c.args.slot).category ≡ 7 = sym c.requires ∙ ap (λ (k : ℕ). (row_of k).category) c.in-28.is in
+    rw (c.in-28.is, ne_eqb (slot_of c.args.slot).context 2 (λ h. c.in_default-slot-3.not-FunctionDecorators (of_function c.args.slot e h)))
 
-pub returns-in-31 : goal.returns-in-31
-unfolding holds flag_rule lookup bit0 bit1
-returns-in-31 c = rw c.in-31.is
-
-pub returns-in-32 : goal.returns-in-32
-unfolding holds flag_rule lookup bit0 bit1
-returns-in-32 c = rw c.in-32.is
-
-pub returns-in-37 : goal.returns-in-37
-unfolding holds flag_rule lookup bit0 bit1
-returns-in-37 c = rw c.in-37.is
-
-pub returns-in_default : goal.returns-in_default
-unfolding flag_rule
-returns-in_default c =
-    let r = c.in_default.in_default-own.rest in
-    rw (lookup_miss _ 4 _ _ _ r.0.0.0.0.0.0.0.1, lookup_miss _ 22 _ _ _ r.0.0.0.0.0.0.1, lookup_miss _ 26 _ _ _ r.0.0.0.0.0.1, lookup_miss _ 28 _ _ _ r.0.0.0.0.1, lookup_miss _ 30 _ _ _ r.0.0.0.1, lookup_miss _ 31 _ _ _ r.0.0.1, lookup_miss _ 32 _ _ _ r.0.1, lookup_miss _ 37 _ _ _ r.1) (unfold lookup holds in refl)
+pub returns-in_default-matches-2 : goal.returns-in_default-matches-2
+unfolding holds flag_rule lookup
+returns-in_default-matches-2 c =
+    let h = c.in_default in
+    let e = λ (a : c.args.kind ≡ 26 → ⊥) (b : c.args.kind ≡ 28 → ⊥). not_in_context c.args.kind c.args.slot c.requires a b c.in_default-matches-2.not-OwnStatement c.in_default-matches-2.not-Key in
+    grind (arith, nat_tests, e)

@@ -1,51 +1,23 @@
--- `gingerpost_rewrite`: the early returns are refusals; else validation accepts the words, and the rest is `rewrite_by` for at most 64, `long_call` or `longest_call` for more.
-use Rattle.host.specs.EntryLaws.{good_length, answer_bad, refused_number, refused_lent, rewriting_refused}
-use Rattle.host.specs.Entry.{answer_in, rewrite_bytes, rewrite_bytes_lent}
-use Rattle.host.specs.Bytes.{words_of_bytes, bytes_of_words}
+-- `gingerpost_rewrite`: the job's answer, in one number.
+use Rattle.std.proofs.Common.{sym, ap, ◌∙◌, subst}
 use Rattle.rewriting.specs.Answer.{module_words}
-use lib.ListN.{length}
-use native.Mathlib.Omega.{arith}
-use mathlib.Core.Path.{refl, sym, ◌∙◌}
+use Rattle.host.specs.Bytes.{words_of_bytes}
+use Rattle.host.specs.Entry.{number_of, InFields, rewrite_bytes}
+use Rattle.host.specs.EntryLaws.{bytes_fields, module_bound, rewriting_lent, rewriting_demand}
 use Rattle.host.proofs.gingerpost_rewrite.Goals as goal
 
-pub returns-then-is_bad_length : goal.returns-then-is_bad_length
-unfolding rewrite_bytes rewrite_bytes_lent answer_in
-returns-then-is_bad_length c =
+pub number-requires : goal.number-requires
+number-requires c =
     let bs = c.args.bytes.now in
-    let o = c.args.out.now in
-    let e = answer_bad bs (module_words (words_of_bytes bs)) o (sym c.is_bad_length.ensures ∙ c.if-is_bad_length.true) in
-    record {
-      number = refused_number 1 _ e;
-      lent = refused_lent 1 _ (bytes_of_words (module_words (words_of_bytes bs))) o (λ z. omega arith) e;
-      demand = λ z. absurd (omega arith);
-    }
+    subst InFields (sym c.entry.ensures.numbers) (bytes_fields bs (module_words (words_of_bytes bs)) c.args.out.now (λ t. module_bound (words_of_bytes bs) t))
 
-pub read-v-requires : goal.read-v-requires
-read-v-requires c =
-    let good = good_length (length c.args.bytes.now) (sym c.is_bad_length.ensures ∙ c.if-is_bad_length.false) in
-    (good.0, omega arith)
+pub returns-clause-number : goal.returns-clause-number
+unfolding rewrite_bytes
+returns-clause-number c = c.number.ensures ∙ ap number_of c.entry.ensures.numbers
 
-pub returns-then-v-ne0 : goal.returns-then-v-ne0
-returns-then-v-ne0 c =
-    let good = good_length (length c.args.bytes.now) (sym c.is_bad_length.ensures ∙ c.if-is_bad_length.false) in
-    let r = rewriting_refused c.args.bytes.now c.args.out.now c.read-v.result good.0 c.read-v.ensures.1 c.if-v-ne0.true in
-    record { number = r.0; lent = r.1.0; demand = r.1.1 }
+pub returns-clause-lent : goal.returns-clause-lent
+returns-clause-lent c = rewriting_lent c.entry.ensures.lent
 
-pub rewrite_by-requires : goal.rewrite_by-requires
-rewrite_by-requires c =
-    let good = good_length (length c.args.bytes.now) (sym c.is_bad_length.ensures ∙ c.if-is_bad_length.false) in
-    (good.0, omega arith, omega arith, omega arith, omega arith, c.read-v.ensures.0, sym c.read-v.ensures.1 ∙ c.if-v-ne0.false)
-
-pub long_call-requires : goal.long_call-requires
-long_call-requires c =
-    let good = good_length (length c.args.bytes.now) (sym c.is_bad_length.ensures ∙ c.if-is_bad_length.false) in
-    (good.0, omega arith)
-
-pub returns-then-bytes-le2048 : goal.returns-then-bytes-le2048
-returns-then-bytes-le2048 c = let r = c.long_call.ensures.rewritten refl in record { number = r.0; lent = r.1.0; demand = r.1.1 }
-
-pub longest_call-requires : goal.longest_call-requires
-longest_call-requires c = good_length (length c.args.bytes.now) (sym c.is_bad_length.ensures ∙ c.if-is_bad_length.false)
-
-pub returns : goal.returns
-returns c = let r = c.longest_call.ensures.rewritten refl in record { number = r.0; lent = r.1.0; demand = r.1.1 }
+pub returns-clause-demand : goal.returns-clause-demand
+unfolding rewrite_bytes
+returns-clause-demand c = rewriting_demand c.number.result (c.number.ensures ∙ ap number_of c.entry.ensures.numbers) c.entry.ensures.lent

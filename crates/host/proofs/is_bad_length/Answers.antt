@@ -1,15 +1,12 @@
--- `is_bad_length`: a mask of 2 ones is a remainder.
-use mathlib.Core.Path.{sym, ◌∙◌}
-use Prim.Native.Nat.{◌%◌}
-use lib.Bits.{and_mask}
-use borrow.Author.Tests.{eq-eqb, ne_eqb}
+use Rattle.std.proofs.Common.{arith}
+use Rattle.std.proofs.lemmas.Bool.Decides.{nat_tests}
 use Rattle.host.specs.Entry.{is_bad_length}
 use Rattle.host.proofs.is_bad_length.Goals as goal
 
 pub returns-then-n-ne0 : goal.returns-then-n-ne0
 unfolding is_bad_length
-returns-then-n-ne0 c = rw (ne_eqb (c.args.n % 4) 0 (λ z. c.if-n-ne0.true (and_mask c.args.n 2 ∙ z)))
+returns-then-n-ne0 c = grind (arith, nat_tests)
 
-pub returns : goal.returns
+pub returns-else-n-ne0 : goal.returns-else-n-ne0
 unfolding is_bad_length
-returns c = rw (eq-eqb (c.args.n % 4) 0 (sym (and_mask c.args.n 2) ∙ c.if-n-ne0.false))
+returns-else-n-ne0 c = grind (arith, nat_tests)

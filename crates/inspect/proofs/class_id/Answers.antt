@@ -1,11 +1,10 @@
 -- `class_id`: the second child, if it is a 27.
 use mathlib.Core.Path.{ap, sym, ◌∙◌}
-use mathlib.Core.Option.{some}
+use Rattle.std.specs.declared.option.Option.TheVariants.{Some as some}
 use native.Mathlib.Omega.{arith}
 use Rattle.words.specs.Word.{kind_of, payload_of, payload_lt}
 use Rattle.records.specs.Label.{read_at}
 use Rattle.records.specs.Place.{label_at}
-use Rattle.inspect.specs.Child.{opt_none, opt_some}
 use Rattle.inspect.specs.Class.{id_here, id_other}
 use Rattle.inspect.proofs.class_id.Goals as goal
 
@@ -14,7 +13,7 @@ unfolding label_at read_at
 returns-then-kind_of-ne27 c =
     let a = c.args in
     let s = c.second_word-w.ensures in
-    (opt_none ∙ sym (id_other a.ws.now a.at s.place s.second (λ e. c.if-kind_of-ne27.true (c.kind_of.ensures ∙ ap kind_of s.word ∙ e))), omega arith)
+    (sym (id_other a.ws.now a.at s.place s.second (λ e. c.if-kind_of-ne27.true (c.kind_of.ensures ∙ ap kind_of s.word ∙ e))), _)
 
 pub returns : goal.returns
 unfolding label_at read_at
@@ -23,4 +22,4 @@ returns c =
     let w = c.second_word-w.result in
     let s = c.second_word-w.ensures in
     let e = c.payload_of.ensures in
-    (opt_some c.payload_of.result (omega (arith, e, payload_lt w)) ∙ ap some (e ∙ ap payload_of s.word) ∙ sym (id_here a.ws.now a.at s.place s.second (sym (c.kind_of.ensures ∙ ap kind_of s.word) ∙ c.if-kind_of-ne27.false)), omega (arith, e, payload_lt w))
+    (ap some (e ∙ ap payload_of s.word) ∙ sym (id_here a.ws.now a.at s.place s.second (sym (c.kind_of.ensures ∙ ap kind_of s.word) ∙ c.if-kind_of-ne27.false)), omega (arith, e, payload_lt w))

@@ -1,16 +1,11 @@
 -- `class_method_parameter_is_decorated`: the entries of the parameters are empty where no parameter has decorators.
-use mathlib.Core.Path.{ap, sym, ◌∙◌}
-use native.Mathlib.Omega.{arith}
-use Rattle.inspect.specs.Child.{kids_row}
+use borrow.Author.Tests.{tests}
+use mathlib.Core.Path.{sym, ◌∙◌}
+use Rattle.std.proofs.Common.{rules}
 use Rattle.inspect.specs.Class.{has_decorators, parameters_any}
-use Rattle.inspect.specs.Row.{any_row}
+use Rattle.inspect.proofs.Read.{any_read}
 use Rattle.inspect.proofs.class_method_parameter_is_decorated.Goals as goal
 
-pub overflow_add-p : goal.overflow_add-p
-overflow_add-p c = omega (arith, c.parameters-p.ensures.1.most)
-
 pub returns : goal.returns
-returns c =
-    let a = c.args in
-    let p = c.parameters-p.result in
-    c.any_decorated.ensures ∙ ap (any_row has_decorators) (kids_row a.ws.now p _ c.children_at.ensures.0 ∙ c.parameters-p.ensures.0) ∙ sym (parameters_any 0 _)
+unfolding has_decorators
+returns c = any_read c.parameters_of.result c.parameters_of.ensures.0 has_decorators c.any.new.self _ _ c.any.ensures.ran (λ x b q k. search (rules, tests)) ∙ sym (parameters_any 0 _)

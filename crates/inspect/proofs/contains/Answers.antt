@@ -1,33 +1,23 @@
--- `contains`: the words of the records follow one another, and none of those passed is of the kind.
+-- `contains`: the words of the records follow one another.
+use borrow.Author.Tests.{tests}
 use mathlib.Core.Path.{sym, ◌∙◌}
-use native.Mathlib.Omega.{arith}
-use borrow.Author.Tests.{eq-eqb, ne_eqb}
-use borrow.Author.Rules.{rules}
-use Rattle.records.specs.Label.{is, read_at}
-use Rattle.records.specs.Place.{label_at, end_low, end_high}
-use Rattle.records.specs.Ends.{ends_at}
-use Rattle.inspect.specs.Inside.{searched_all, searched_hit, searched_next, searched_start}
+use Prim.Native.Nat.{ℕ}
+use lib.Dec.{eqb}
+use Rattle.std.proofs.Common.{rules}
+use Rattle.std.proofs.lemmas.Iterator.{YieldsList-from_slice}
+use Rattle.std.proofs.lemmas.Iterator.Search.{any_from_yields_List}
+use Rattle.words.specs.Word.{kind_of}
+use Rattle.inspect.specs.Inside.{any_part, no_part}
 use Rattle.inspect.proofs.contains.Goals as goal
 
-pub behind-e-requires : goal.behind-e-requires
-behind-e-requires c = search (rules, ends_at)
-
-pub loop-i-init : goal.loop-i-init
-loop-i-init c = (c.behind-e.ensures, searched_start _ _ _ _ c.behind-e.ensures (omega (arith, c.behind-e.ensures, end_low c.args.ws.now c.args.at c.args.k)), omega arith)
-
-pub offset_bounds-ws-i : goal.offset_bounds-ws-i
-offset_bounds-ws-i c = omega (arith, c.loop-i.invariant.0, c.loop-i.invariant.2, c.loop-i-test.true, end_high c.args.ws.now c.args.at c.args.k)
-
-pub bounds-ws-i : goal.bounds-ws-i
-bounds-ws-i c = omega (arith, c.loop-i.invariant.0, c.loop-i.invariant.2, c.loop-i-test.true, end_high c.args.ws.now c.args.at c.args.k)
-
-pub returns-then-kind_of-kind : goal.returns-then-kind_of-kind
-unfolding is label_at read_at
-returns-then-kind_of-kind c = sym (searched_hit _ _ _ _ c.loop-i.invariant.1 c.loop-i-test.true (eq-eqb _ _ (sym c.kind_of.ensures ∙ c.if-kind_of-kind.true)))
-
-pub loop-i-preserved : goal.loop-i-preserved
-unfolding is label_at read_at
-loop-i-preserved c = (c.loop-i.invariant.0, searched_next _ _ _ _ c.loop-i.invariant.1 c.loop-i-test.true (ne_eqb _ _ (λ e. c.if-kind_of-kind.false (c.kind_of.ensures ∙ e))), omega (arith, c.loop-i.invariant.2))
+pub returns-in_default : goal.returns-in_default
+returns-in_default c =
+    let a = c.args in
+    sym (no_part a.kind a.ws.now a.at a.k c.behind-e.result c.behind-e.ensures c.in_default.ensures.lookup.0)
 
 pub returns : goal.returns
-returns c = sym (searched_all _ _ _ _ c.loop-i.invariant.1 c.loop-i-test.false)
+returns c =
+    let a = c.args in
+    let part = c.in-Some.ensures.lookup.0 in
+    any_from_yields_List (λ (w : ℕ). eqb (kind_of w) a.kind) _ _ _ c.any.ensures.ran (YieldsList-from_slice _ (c.iter.ensures.rest ∙ part.2)) (λ x b q k. search (rules, tests))
+    ∙ any_part a.kind a.ws.now a.at a.k c.behind-e.result c.behind-e.ensures part.0 part.1

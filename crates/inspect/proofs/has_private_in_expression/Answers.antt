@@ -1,24 +1,20 @@
--- `has_private_in_expression`: the class's own decorators, then its elements'.
-use mathlib.Core.Path.{◌≡◌, ap, sym, ◌∙◌}
-use mathlib.Core.Bool.{true, false}
-use native.Mathlib.Omega.{arith}
+-- `has_private_in_expression`: the class's own decorators, or those of an element.
+use borrow.Author.Tests.{tests}
+use mathlib.Core.Path.{◌≡◌, sym, ◌∙◌}
+use Rattle.std.proofs.Common.{rules}
 use Rattle.records.specs.Forest.{any_f}
-use Rattle.records.specs.Label.{Trees, is}
+use Rattle.records.specs.Label.{is}
 use Rattle.records.specs.Place.{kids_at}
-use Rattle.rewriting.specs.Parts.{decorators, of_elements}
-use Rattle.inspect.specs.Child.{kids_row}
-use Rattle.inspect.specs.Private.{class_private}
+use Rattle.rewriting.specs.Parts.{elements_of, of_elements}
+use Rattle.inspect.specs.Private.{class_private, elements_private, private_in_element}
+use Rattle.inspect.proofs.Read.{any_read}
 use Rattle.inspect.proofs.has_private_in_expression.Goals as goal
 
 pub returns-then-private_in : goal.returns-then-private_in
-returns-then-private_in c =
-    let d : any_f (is 19) (decorators (kids_at c.args.ws.now c.args.at)) ≡ true = sym c.private_in.ensures ∙ c.if-private_in.true in
-    sym (class_private _ ∙ rw d)
+returns-then-private_in c = rw class_private (search rules)
 
-pub overflow_add-b : goal.overflow_add-b
-overflow_add-b c = omega (arith, c.body-b.ensures.1.most)
-
-pub returns : goal.returns
-returns c =
-    let d : any_f (is 19) (decorators (kids_at c.args.ws.now c.args.at)) ≡ false = sym c.private_in.ensures ∙ c.if-private_in.false in
-    c.private_in_elements.ensures ∙ ap (λ (f : Trees). any_f (is 19) (of_elements f)) (kids_row c.args.ws.now c.body-b.result _ c.children_at.ensures.0 ∙ c.body-b.ensures.0) ∙ sym (class_private _ ∙ rw d)
+pub returns-else-private_in : goal.returns-else-private_in
+unfolding private_in_element
+returns-else-private_in c =
+    let any : c.any.result ≡ any_f (is 19) (of_elements (elements_of (kids_at c.args.ws.now c.args.at))) = any_read c.elements.result c.elements.ensures.0 private_in_element c.any.new.self _ _ c.any.ensures.ran (λ x b q k. search (rules, tests)) ∙ sym (elements_private _) in
+    rw class_private (search rules)

@@ -1,19 +1,12 @@
 -- `is_decorated_constructor`: the two tests, one after the other.
-use mathlib.Core.Path.{◌≡◌, sym, ◌∙◌}
-use mathlib.Core.Bool.{true, false}
-use Rattle.records.specs.Place.{label_at}
-use Rattle.rewriting.specs.Parts.{is_constructor}
-use Rattle.inspect.specs.Class.{constructor_at, is_decorated_constructor}
+use Rattle.std.proofs.Common.{rules}
+use Rattle.inspect.specs.Class.{is_decorated_constructor}
 use Rattle.inspect.proofs.is_decorated_constructor.Goals as goal
 
-pub returns-then-is_constructor : goal.returns-then-is_constructor
+pub returns-then-is_constructor_at : goal.returns-then-is_constructor_at
 unfolding is_decorated_constructor
-returns-then-is_constructor c =
-    let t : is_constructor (label_at c.args.ws.now c.args.at) ≡ true = sym (c.is_constructor.ensures ∙ constructor_at c.args.ws.now c.args.at c.word_at.result c.word_at.ensures) ∙ c.if-is_constructor.true in
-    c.class_method_parameter_is_decorated.ensures ∙ sym (rw t)
+returns-then-is_constructor_at c = search rules
 
-pub returns : goal.returns
+pub returns-else-is_constructor_at : goal.returns-else-is_constructor_at
 unfolding is_decorated_constructor
-returns c =
-    let t : is_constructor (label_at c.args.ws.now c.args.at) ≡ false = sym (c.is_constructor.ensures ∙ constructor_at c.args.ws.now c.args.at c.word_at.result c.word_at.ensures) ∙ c.if-is_constructor.false in
-    sym (rw t)
+returns-else-is_constructor_at c = search rules

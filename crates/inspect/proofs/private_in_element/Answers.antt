@@ -1,23 +1,30 @@
 -- `private_in_element`: by the kind of the element.
 use mathlib.Core.Path.{sym, ◌∙◌}
-use borrow.Author.Rules.{rules}
-use Rattle.records.specs.Place.{kids_at, label_at}
-use Rattle.inspect.specs.Private.{private_31, private_32, private_other}
+use native.Mathlib.Omega.{arith}
+use Rattle.std.proofs.Common.{rules}
+use Rattle.inspect.specs.Private.{private_constructor, private_field, private_method, private_other}
 use Rattle.inspect.proofs.private_in_element.Goals as goal
+use Rattle.inspect.proofs.private_in_element.Goals.{then-not-is_constructor_at, else-not-is_constructor_at}
 
-pub private_in_method-requires : goal.private_in_method-requires
-private_in_method-requires c = (search rules, sym c.kind_at-k.ensures ∙ c.if-k-eq30.true)
+pub returns-then-private_in : goal.returns-then-private_in
+returns-then-private_in c =
+    elim c.if-not-is_constructor_at.branch [
+      | then-not-is_constructor_at w ↦ rw (private_method _ _ (sym c.kind_at.ensures ∙ c.in-30.is) (sym c.is_constructor_at.ensures ∙ w.if-not-is_constructor_at.true)) (search rules)
+      | else-not-is_constructor_at w ↦ rw (private_constructor _ _ (sym c.kind_at.ensures ∙ c.in-30.is) (sym c.is_constructor_at.ensures ∙ w.if-not-is_constructor_at.false)) (search rules)
+    ]
 
-pub returns-then-k-eq30 : goal.returns-then-k-eq30
-returns-then-k-eq30 c = c.private_in_method.ensures
+pub returns-else-private_in : goal.returns-else-private_in
+returns-else-private_in c =
+    elim c.if-not-is_constructor_at.branch [
+      | then-not-is_constructor_at w ↦ rw (private_method _ _ (sym c.kind_at.ensures ∙ c.in-30.is) (sym c.is_constructor_at.ensures ∙ w.if-not-is_constructor_at.true)) (search rules)
+      | else-not-is_constructor_at w ↦ rw (private_constructor _ _ (sym c.kind_at.ensures ∙ c.in-30.is) (sym c.is_constructor_at.ensures ∙ w.if-not-is_constructor_at.false)) (search rules)
+    ]
 
-pub returns-then-k-eq31 : goal.returns-then-k-eq31
-returns-then-k-eq31 c = c.private_in.ensures ∙ sym (private_31 (label_at c.args.ws.now c.args.at) (kids_at c.args.ws.now c.args.at) (sym c.kind_at-k.ensures ∙ c.if-k-eq31.true))
+pub returns-in-31 : goal.returns-in-31
+returns-in-31 c = c.private_in-in-31.ensures ∙ sym (private_field _ _ (omega arith) (omega arith))
 
-pub returns-then-k-eq32 : goal.returns-then-k-eq32
-returns-then-k-eq32 c = c.private_in-then-k-eq32.ensures ∙ sym (private_32 (label_at c.args.ws.now c.args.at) (kids_at c.args.ws.now c.args.at) (sym c.kind_at-k.ensures ∙ c.if-k-eq32.true))
+pub returns-in_default : goal.returns-in_default
+returns-in_default c = sym (private_other _ _ (λ e. omega arith) (λ e. omega arith) (λ e. omega arith))
 
-pub returns : goal.returns
-returns c =
-    let k = c.kind_at-k.ensures in
-    sym (private_other (label_at c.args.ws.now c.args.at) (kids_at c.args.ws.now c.args.at) (λ e. c.if-k-eq30.false (k ∙ e)) (λ e. c.if-k-eq31.false (k ∙ e)) (λ e. c.if-k-eq32.false (k ∙ e)))
+pub returns-in_default-2 : goal.returns-in_default-2
+returns-in_default-2 c = sym (private_other _ _ (λ e. omega arith) (λ e. omega arith) (λ e. omega arith))

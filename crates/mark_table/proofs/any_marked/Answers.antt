@@ -1,30 +1,34 @@
 -- `any_marked`: none of the elements passed is a decorated member.
-use mathlib.Core.Path.{sym, ◌∙◌}
+use mathlib.Core.Path.{sym, ap, ◌∙◌}
 use native.Mathlib.Omega.{arith}
-use borrow.Author.Tests.{eq-eqb, ne_eqb}
-use Rattle.records.specs.Place.{end_high}
-use Rattle.rewriting.specs.Parts.{is_decorated_member}
-use Rattle.inspect.specs.Row.{any_all, any_hit, any_past, passed_next, passed_start}
+use Rattle.inspect.specs.declared.reading.Reader.{Reader}
 use Rattle.mark_table.specs.Marks.{element_mark}
+use Rattle.mark_table.specs.Unmarked.{unmarked_start, unmarked_inside, unmarked_place, unmarked_hit, unmarked_next, unmarked_all}
 use Rattle.mark_table.proofs.any_marked.Goals as goal
 
-pub loop-n-init : goal.loop-n-init
-loop-n-init c = passed_start is_decorated_member c.args.ws.now c.args.at c.args.k
-
-pub returns-then-ws-q : goal.returns-then-ws-q
-returns-then-ws-q c = sym (any_past _ _ _ _ c.loop-n.invariant c.if-ws-q.true)
+pub loop-q-init : goal.loop-q-init
+loop-q-init c =
+    let e = c.into_iter-q-iterator.ensures.into_iter_gives in
+    let n = c.records-q-items.ensures in
+    unmarked_start (ap (λ (r : Reader). r.words.now) e ∙ ap (λ x. x.now) n.0) (ap (λ (r : Reader). r.at) e ∙ n.1) (ap (λ (r : Reader). r.left) e ∙ n.2)
 
 pub bounds-notes-q : goal.bounds-notes-q
-bounds-notes-q c = omega (arith, c.requires.0.long, c.if-ws-q.false)
+bounds-notes-q c = omega (arith, c.requires.0.long, unmarked_inside c.loop-q.invariant c.in-Some.ensures.steps.goes)
 
-pub returns-then-w-eq1 : goal.returns-then-w-eq1
-returns-then-w-eq1 c = sym (any_hit _ _ _ _ c.loop-n.invariant c.loop-n-test.true c.if-ws-q.false (sym (element_mark c.args.ws.now c.args.notes.now c.args.at c.args.k c.loop-n.q c.loop-n.n c.requires.1 c.loop-n.invariant.place c.loop-n-test.true c.if-ws-q.false) ∙ eq-eqb _ _ c.if-w-eq1.true))
+pub offset_bounds-notes-q : goal.offset_bounds-notes-q
+offset_bounds-notes-q c = omega (arith, c.requires.0.long, unmarked_inside c.loop-q.invariant c.in-Some.ensures.steps.goes)
 
-pub overflow_cast-q : goal.overflow_cast-q
-overflow_cast-q c = omega (arith, c.requires.0.right c.loop-n.q (omega arith) c.if-ws-q.false, end_high c.args.ws.now c.loop-n.q 1, c.if-ws-q.false)
+pub returns-then-notes-q : goal.returns-then-notes-q
+returns-then-notes-q c =
+    let s = c.in-Some.ensures.steps.goes in
+    let p = unmarked_place c.loop-q.invariant s in
+    sym (unmarked_hit c.loop-q.invariant s (sym (element_mark c.args.ws.now c.args.notes.now c.args.at c.args.k c.in-Some.q _ c.requires.1 p.0 p.1 (unmarked_inside c.loop-q.invariant s)) ∙ c.if-notes-q.true))
 
-pub loop-n-preserved : goal.loop-n-preserved
-loop-n-preserved c = passed_next _ _ _ _ c.loop-n.invariant c.loop-n-test.true c.if-ws-q.false (c.requires.0.right c.loop-n.q (omega arith) c.if-ws-q.false) (sym (element_mark c.args.ws.now c.args.notes.now c.args.at c.args.k c.loop-n.q c.loop-n.n c.requires.1 c.loop-n.invariant.place c.loop-n-test.true c.if-ws-q.false) ∙ ne_eqb _ _ c.if-w-eq1.false)
+pub loop-q-preserved : goal.loop-q-preserved
+loop-q-preserved c =
+    let s = c.in-Some.ensures.steps.goes in
+    let p = unmarked_place c.loop-q.invariant s in
+    unmarked_next c.loop-q.invariant s (sym (element_mark c.args.ws.now c.args.notes.now c.args.at c.args.k c.in-Some.q _ c.requires.1 p.0 p.1 (unmarked_inside c.loop-q.invariant s)) ∙ c.if-notes-q.false)
 
 pub returns : goal.returns
-returns c = sym (any_all _ _ _ _ c.loop-n.invariant c.loop-n-test.false)
+returns c = sym (unmarked_all c.loop-q.invariant c.in-None.ensures.steps.gives.0)

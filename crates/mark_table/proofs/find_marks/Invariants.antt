@@ -4,6 +4,3 @@ use Rattle.mark_table.proofs.find_marks.Given as goal
 
 abbrev pub invariant-loop-i : goal.invariant-loop-i
 invariant-loop-i l = Done l.ws l.notes (length l.initial.notes) l.i l.test l.refused
-
-abbrev pub decreases-loop-i : goal.decreases-loop-i
-decreases-loop-i l = l.i

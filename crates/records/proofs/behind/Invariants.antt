@@ -3,8 +3,5 @@ use mathlib.Core.Path.{◌≡◌}
 use Prim.Native.Nat.{◌-◌, ◌≤◌}
 use Rattle.records.proofs.behind.Given as goal
 
-abbrev pub invariant-loop-i : goal.invariant-loop-i
-invariant-loop-i l = (l.at ≤ l.q) × (end_of l.ws l.q (l.k - l.i) ≡ end_of l.ws l.at l.k)
-
-abbrev pub decreases-loop-i : goal.decreases-loop-i
-decreases-loop-i l = l.k - l.i
+abbrev pub invariant-loop : goal.invariant-loop
+invariant-loop l = (l.at ≤ l.q) × (end_of l.ws l.q (l.k - l.counter) ≡ end_of l.ws l.at l.k)

@@ -1,33 +1,20 @@
--- `rewrite`: a fault of validation; else at most 64 words, at most 512, or at most 4,096, and the rest is `rewrite_by`.
-use Rattle.rewriter.specs.Start.{well}
-use Rattle.rewriter.specs.Result.{back_fault, answer_back, lent_back}
-use Rattle.rewriter.specs.Numbers.{numbers_of}
-use Rattle.rewriting.specs.Answer.{module_words, rewrite_answer, rewrite_lent}
-use mathlib.Core.Path.{sym, ◌∙◌}
-use native.Mathlib.Omega.{arith}
+-- `rewrite`: the job's answer, its words in the only order that counts.
+use Rattle.std.proofs.Common.{List, ℕ, ap, ◌∙◌, length}
+use Rattle.rewriting.specs.Answer.{module_words, answer_of, lent_after, rewrite_answer, rewrite_lent}
+use Rattle.rewriter.specs.Result.{demand_of}
 use Rattle.rewriter.proofs.rewrite.Goals as goal
 
-pub returns-then-v-ne0 : goal.returns-then-v-ne0
-unfolding numbers_of rewrite_answer rewrite_lent
-returns-then-v-ne0 c =
-    let g = c.args in
-    let ws = g.ws.now in
-    let v = c.number-v.result in
-    let b = back_fault ws v (c.number-v.ensures ∙ c.validate.ensures) c.if-v-ne0.true in
-    let n = answer_back ws (module_words ws) g.out.now v b c.if-v-ne0.true in
-    record {
-      numbers = n;
-      lent = lent_back ws (module_words ws) g.out.now (record { code = v; written = 0; fresh = 0 }) n c.if-v-ne0.true (module_words ws);
-      demand = λ z. absurd (c.if-v-ne0.true z);
-    }
+pub returns-clause-numbers : goal.returns-clause-numbers
+unfolding rewrite_answer
+returns-clause-numbers c = c.perform.ensures.numbers
 
-pub rewrite_by-requires : goal.rewrite_by-requires
-rewrite_by-requires c = (sym (c.number-v.ensures ∙ c.validate.ensures) ∙ c.if-v-ne0.false, omega arith)
+pub returns-clause-lent : goal.returns-clause-lent
+unfolding rewrite_answer rewrite_lent
+returns-clause-lent c =
+    c.perform.ensures.lent.lent ∙ ap (λ (ys : List ℕ). lent_after (answer_of c.args.ws.now (module_words c.args.ws.now) (length c.args.out.now)) ys c.args.out.now) c.perform.ensures.lent.same
 
-pub rewrite_by-requires-then-ws-le512 : goal.rewrite_by-requires-then-ws-le512
-rewrite_by-requires-then-ws-le512 c = (sym (c.number-v.ensures ∙ c.validate.ensures) ∙ c.if-v-ne0.false, omega (arith, c.if-ws-le512.true))
-
-pub rewrite_by-requires-2 : goal.rewrite_by-requires-2
-rewrite_by-requires-2 c =
-    let ok = sym (c.number-v.ensures ∙ c.validate.ensures) ∙ c.if-v-ne0.false in
-    (ok, omega (arith, (well c.args.ws.now ok).sized.few))
+pub returns-clause-demand : goal.returns-clause-demand
+unfolding rewrite_answer rewrite_lent
+returns-clause-demand c =
+    let lent = c.perform.ensures.lent.lent ∙ ap (λ (ys : List ℕ). lent_after (answer_of c.args.ws.now (module_words c.args.ws.now) (length c.args.out.now)) ys c.args.out.now) c.perform.ensures.lent.same in
+    demand_of c.args.ws.now c.args.out.now c.perform.new.out c.perform.result c.perform.ensures.numbers lent

@@ -9,34 +9,29 @@ use Rattle.words.specs.Word.{bit0}
 use Rattle.records.specs.Label.{bit, is}
 use Rattle.output.specs.Overlay.{wrote_then}
 use Rattle.walk_laws.specs.Calls.{argument_words, prefix_words}
-use Rattle.counter.specs.Contract.{around_of, state_of}
-use Rattle.transform.specs.Contract.{state_in, word_below}
-use Rattle.transform.specs.Leaves.{descriptor_lt, prefix_length, wrote_as}
+use Rattle.transform.specs.Contract.{word_below}
+use Rattle.transform.specs.Leaves.{descriptor_lt, prefix_length, symbol_is, wrote_as}
 use Rattle.transform.proofs.arguments.Goals as goal
-
-pub get_class_member_prefix-p1-requires : goal.get_class_member_prefix-p1-requires
-get_class_member_prefix-p1-requires c = (c.requires.0, omega (arith, c.requires.1), subst (λ (n : ℕ). n < 67108864) (sym (c.symbol_of.ensures.0 c.requires.4)) c.requires.3)
 
 pub get_name_of_property_key-p2-requires : goal.get_name_of_property_key-p2-requires
 get_name_of_property_key-p2-requires c =
-    let a = c.args in
-    (c.requires.0, omega (arith, c.get_class_member_prefix-p1.ensures.end, prefix_length (word_below a.c) 0 c.symbol_of.result (eqb (bit0 c.payload_at.result) 1), c.requires.1), c.requires.2, c.requires.5, c.requires.6, c.requires.7)
+    let p = c.requires in
+    (p.0, omega (arith, c.get_class_member_prefix-p1.ensures.end, prefix_length (word_below c.args.c) 0 c.unwrap.result (eqb (bit0 c.payload_at.result) 1), p.1), p.2, p.4, p.5, p.6)
 
 pub put-requires : goal.put-requires
-put-requires c =
-    let a = c.args in (
-      c.requires.0,
-      omega (arith, c.get_name_of_property_key-p2.ensures.end, c.get_class_member_prefix-p1.ensures.end, prefix_length (word_below a.c) 0 c.symbol_of.result (eqb (bit0 c.payload_at.result) 1), c.requires.1),
-      subst (λ (n : ℕ). n < 64) (sym c.descriptor.ensures) (descriptor_lt (eqb c.kind_at.result 31)),
-      omega arith,
-    )
+put-requires c = (
+  c.requires.0,
+  omega (arith, c.get_name_of_property_key-p2.ensures.end, c.get_class_member_prefix-p1.ensures.end, prefix_length (word_below c.args.c) 0 c.unwrap.result (eqb (bit0 c.payload_at.result) 1), c.requires.1),
+  subst (λ (n : ℕ). n < 64) (sym c.descriptor.ensures) (descriptor_lt (eqb c.kind_at.result 31)),
+  omega arith,
+)
 
 pub returns : goal.returns
-unfolding argument_words around_of state_in state_of bit is
+unfolding argument_words bit is
 returns c =
-    let a = c.args in
-    let w : ℕ → ℕ → ℕ = word_below a.c in
+    let w : ℕ → ℕ → ℕ = word_below c.args.c in
+    let symbol = symbol_is c.args.a.id c.args.s.default _ (sym c.or.ensures ∙ c.unwrap.ensures) in
     wrote_then
-    (wrote_as (ap (λ (p : ℕ). prefix_words w (eqb (bit0 p) 1) c.symbol_of.result) c.payload_at.ensures.0 ∙ ap (prefix_words w _) (c.symbol_of.ensures.0 c.requires.4)) c.get_class_member_prefix-p1.ensures)
+    (wrote_as (ap (λ (p : ℕ). prefix_words w (eqb (bit0 p) 1) c.unwrap.result) c.payload_at.ensures.0 ∙ ap (prefix_words w _) (sym symbol)) c.get_class_member_prefix-p1.ensures)
     (wrote_then c.get_name_of_property_key-p2.ensures
     (wrote_as (ap (λ (k : ℕ). w k 0 ∷ []) (c.descriptor.ensures ∙ ap (λ (k : ℕ). cond (eqb k 31) 14 13) c.kind_at.ensures)) c.put.ensures))

@@ -1,18 +1,20 @@
 -- `body_stack`: one entry more where the class has an alias.
 use native.Mathlib.Omega.{arith}
-use mathlib.Core.Logic.{⊎_elim}
-use Rattle.transform.specs.Leaves.{body_push, body_same}
+use Rattle.walk_laws.specs.ClassPlan.{under}
+use Rattle.transform.specs.ClassWords.{word_in, body_word}
+use Rattle.transform.specs.Leaves.{body_push}
 use Rattle.transform.proofs.body_stack.Goals as goal
 
-pub returns-then-g-eq-NONE : goal.returns-then-g-eq-NONE
-returns-then-g-eq-NONE c =
-    let a = c.args in
-    (c.requires.0, omega arith, body_same a.g a.c c.if-g-eq-NONE.true)
+pub returns-in-Some-Some : goal.returns-in-Some-Some
+unfolding body_word word_in
+returns-in-Some-Some c =
+    let e = c.push.ensures in
+    (e.1, omega (arith, e.2), λ k p. rw (c.in-Some-Some.is-0, c.in-Some-Some.is-1) (body_push c.args.c c.push.result _ _ e.0 k p))
 
-pub push-requires : goal.push-requires
-push-requires c = (c.requires.0, c.requires.1, ⊎_elim (λ l. l) (λ e. absurd (c.if-g-eq-NONE.false e)) c.requires.3, omega (arith, c.requires.2, c.if-g-eq-NONE.false))
+pub returns-in_default : goal.returns-in_default
+unfolding body_word word_in under
+returns-in_default c = (c.requires.0, omega arith, λ k p. rw (c.in_default.is-0, c.in_default.is-1))
 
-pub returns : goal.returns
-returns c =
-    let a = c.args in
-    (c.push.ensures.1, omega (arith, c.push.ensures.2), body_push a.g a.c c.push.result c.if-g-eq-NONE.false c.push.ensures.0)
+pub returns-in_default-2 : goal.returns-in_default-2
+unfolding body_word word_in
+returns-in_default-2 c = (c.requires.0, omega arith, λ k p. rw c.in_default.is-0)

@@ -10,6 +10,4 @@ use Rattle.transform.proofs.class_words.Goals as goal
 
 pub returns : goal.returns
 unfolding name_words
-returns c =
-    let a = c.args in
-    wrote_then (wrote_as (ap (λ (p : ℕ). word_below a.c 26 p ∷ []) (c.class_flags.ensures.0 a.c)) c.put-p1.ensures) (wrote_then c.put-p2.ensures c.put_optional.ensures)
+returns c = wrote_then (wrote_as (ap (λ (p : ℕ). word_below c.args.c 26 p ∷ []) c.class_flags.ensures.0) c.put-p1.ensures) (wrote_then c.put-p2.ensures c.put_optional.ensures)

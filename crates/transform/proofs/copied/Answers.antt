@@ -13,19 +13,13 @@ put-p-requires c =
     let g = c.args in
     let f = c.requires in
     let l = c.loop-i in
-    (f.stack, omega (arith, f.fit, l.invariant.end, l.invariant.low, c.loop-i-test.true), kind_small g.ws.now l.i c.kind_at.result c.kind_at.ensures (omega (arith, c.shared_slice_known-1.given l.i)), c.payload_at.ensures.1)
-
-pub overflow_add-i : goal.overflow_add-i
-overflow_add-i c = omega (arith, c.loop-i-test.true, c.requires.inside, c.requires.few)
-
-pub loop-i-smaller : goal.loop-i-smaller
-loop-i-smaller c = omega (arith, c.loop-i-test.true)
+    (f.stack, omega (arith, f.fit, l.invariant.end, l.invariant.low), kind_small g.ws.now l.i c.kind_at.result c.kind_at.ensures (omega (arith, c.shared_slice_known-1.given l.i)), c.payload_at.ensures.1)
 
 pub loop-i-preserved : goal.loop-i-preserved
-loop-i-preserved c = copying_next c.loop-i.invariant c.loop-i-test.true c.kind_at.ensures c.payload_at.ensures.0 c.put-p.ensures
+loop-i-preserved c = copying_next c.loop-i.invariant (omega arith) c.kind_at.ensures c.payload_at.ensures.0 c.put-p.ensures
 
 pub shape_of-out : goal.shape_of-out
 shape_of-out c = wrote_length c.loop-i.invariant.wrote
 
 pub returns : goal.returns
-returns c = copying_all c.loop-i.invariant c.loop-i-test.false
+returns c = copying_all c.loop-i.invariant (omega arith)

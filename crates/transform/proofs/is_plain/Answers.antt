@@ -2,7 +2,6 @@
 use mathlib.Core.Path.{sym, ◌∙◌}
 use Prim.Native.Nat.{◌+◌}
 use native.Mathlib.Omega.{arith}
-use borrow.Author.Tests.{eq-eqb, ne_eqb}
 use Rattle.walk_laws.specs.Kinds.{class_inside, class_kind}
 use Rattle.counter.specs.Body.{body_asks, body_inside, body_mark}
 use Rattle.transform.specs.Plain.{plain_not, plain_is, class_mark}
@@ -14,11 +13,11 @@ bounds-notes-at c =
     let p = c.requires in
     omega (arith, p.0.ends.long, class_inside g.ws.now p.1 g.at p.2 p.3)
 
-pub returns-then-notes-at-eq1 : goal.returns-then-notes-at-eq1
-returns-then-notes-at-eq1 c =
+pub returns-then-notes-at : goal.returns-then-notes-at
+returns-then-notes-at c =
     let g = c.args in
     let p = c.requires in
-    sym (plain_not _ (sym (class_mark g.ws.now p.1 g.at p.2 p.3 p.0) ∙ eq-eqb _ 1 c.if-notes-at-eq1.true))
+    sym (plain_not _ (sym (class_mark g.ws.now p.1 g.at p.2 p.3 p.0) ∙ c.if-notes-at.true))
 
 pub class_body-b-requires : goal.class_body-b-requires
 class_body-b-requires c =
@@ -43,4 +42,4 @@ returns c =
     let g = c.args in
     let p = c.requires in
     let mark = body_mark g.ws.now p.1 (g.at + 1) (class_inside g.ws.now p.1 g.at p.2 p.3) (class_kind g.ws.now p.1 g.at p.2 p.3) c.class_body-b.ensures p.0 in
-    sym (plain_is _ _ (sym (class_mark g.ws.now p.1 g.at p.2 p.3 p.0) ∙ ne_eqb _ 1 c.if-notes-at-eq1.false) mark)
+    sym (plain_is _ _ (sym (class_mark g.ws.now p.1 g.at p.2 p.3 p.0) ∙ c.if-notes-at.false) mark)

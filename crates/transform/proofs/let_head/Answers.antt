@@ -2,16 +2,18 @@
 use native.Mathlib.Omega.{arith}
 use Rattle.output.specs.Overlay.{wrote_then}
 use Rattle.transform.specs.Contract.{word_below}
-use Rattle.transform.specs.Leaves.{let_fixed, let_free, optional_length, wrote_as}
+use Rattle.transform.specs.ClassWords.{let_words}
+use Rattle.transform.specs.Leaves.{optional_length}
 use Rattle.transform.proofs.let_head.Goals as goal
 
 pub returns-then-g : goal.returns-then-g
-returns-then-g c = wrote_as (let_fixed c.args.g c.args.c c.if-g.true) (wrote_then c.put-p1.ensures c.put.ensures)
+unfolding let_words
+returns-then-g c = rw c.if-g.true (wrote_then c.put-p1.ensures c.put.ensures)
 
 pub put-requires-2 : goal.put-requires-2
 put-requires-2 c =
-    let a = c.args in
-    (c.requires.0, omega (arith, c.put_optional-p2.ensures.end, optional_length (word_below a.c) 18 a.g.alias, c.put-p1.ensures.end, c.requires.1), omega arith, omega arith)
+    (c.requires.0, omega (arith, c.put_optional-p2.ensures.end, optional_length (word_below c.args.c) 18 c.args.g.alias, c.put-p1.ensures.end, c.requires.1), omega arith, omega arith)
 
 pub returns : goal.returns
-returns c = wrote_as (let_free c.args.g c.args.c c.if-g.false) (wrote_then c.put-p1.ensures (wrote_then c.put_optional-p2.ensures c.put-2.ensures))
+unfolding let_words
+returns c = rw c.if-g.false (wrote_then c.put-p1.ensures (wrote_then c.put_optional-p2.ensures c.put-2.ensures))

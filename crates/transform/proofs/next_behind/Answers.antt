@@ -4,12 +4,6 @@ use Rattle.walk_laws.specs.Kinds.{class_inside, class_kind}
 use Rattle.transform.specs.Plans.{named_symbols_lem}
 use Rattle.transform.proofs.next_behind.Goals as goal
 
-pub bounds-notes-at : goal.bounds-notes-at
-bounds-notes-at c = let p = c.requires in omega (arith, p.0.planned.ends.long, p.1)
-
-pub overflow_add-result : goal.overflow_add-result
-overflow_add-result c = omega (arith, c.requires.0.room)
-
 pub class_count-requires : goal.class_count-requires
 class_count-requires c =
     let p = c.requires in

@@ -1,15 +1,12 @@
 -- `put_optional`: nothing is written where there is no symbol.
 use Rattle.output.specs.Overlay.{wrote_none}
-use Rattle.transform.specs.Contract.{word_below}
-use Rattle.transform.specs.Leaves.{optional_is, optional_no, wrote_as}
+use Rattle.walk_laws.specs.ClassPlan.{optional}
 use Rattle.transform.proofs.put_optional.Goals as goal
 
-pub returns-then-p-eq-NONE : goal.returns-then-p-eq-NONE
-returns-then-p-eq-NONE c =
-    let a = c.args in
-    wrote_as (optional_no (word_below a.c) a.k a.p c.if-p-eq-NONE.true) (wrote_none _ _)
+pub returns-in-Some : goal.returns-in-Some
+unfolding optional
+returns-in-Some c = rw c.in-Some.is c.put.ensures
 
-pub returns : goal.returns
-returns c =
-    let a = c.args in
-    wrote_as (optional_is (word_below a.c) a.k a.p c.if-p-eq-NONE.false) c.put.ensures
+pub returns-in-None : goal.returns-in-None
+unfolding optional
+returns-in-None c = rw c.in-None.is (wrote_none _ _)

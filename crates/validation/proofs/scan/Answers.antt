@@ -1,113 +1,86 @@
--- `scan`: what is left of the walk is that of the places ahead; each turn reads a word.
-use Rattle.validation.specs.Walked.{leaves, plain, run, waiting, ahead}
-use Rattle.validation.specs.Walks.{rest_as, scan_done, scan_end, scan_fault, scan_depth, scan_known, scan_below, scan_leaf, scan_plain, scanned, scanned_short, fault_six}
-use Rattle.grammar.specs.Scan.{place}
-use Rattle.grammar.specs.Limits.{max_depth}
-use Rattle.words.specs.Word.{kind_of, payload_of, children_le, payload_lt}
-use lib.ListN.{get_or}
-use native.Mathlib.Omega.{arith}
-use Prim.Native.Nat.{◌≤◌}
-use mathlib.Core.Path.{refl, sym, ◌∙◌}
+-- `scan`: what is left of the scan is that of the runs ahead; each turn reads a word.
+use Rattle.std.proofs.Common.{◌+◌, ◌≤◌, ◌∷◌, List, length, drop, refl, sym, ap, ◌∙◌, arith, rules}
+use Rattle.std.proofs.lemmas.Bool.Decides.{nat_tests}
+use Rattle.grammar.specs.Scan.{Place, place, top, judge}
+use Rattle.grammar.proofs.RefusalLaws.{number_some}
+use Rattle.validation.specs.declared.Run.{Run}
+use Rattle.validation.specs.Sets.{leaves}
+use Rattle.validation.specs.Waiting.{waiting, places_in}
+use Rattle.validation.specs.Walks.{scan_left, scan_fault, scan_allowed, scan_depth, scan_below, scan_leaf, scan_end, scan_done}
 use Rattle.validation.proofs.scan.Goals as goal
 
-pub loop-r-init : goal.loop-r-init
-unfolding ahead run waiting place
-loop-r-init c = (record { fields = record { category = omega arith; context = omega arith; count = omega arith }; room = record { inside = omega arith; some = λ i l. absurd (omega arith); levels = λ i l. absurd (omega arith); counts = λ i l. absurd (omega arith) }; levels = omega arith }, record { whole = λ u. u }, refl)
+pub loop-w-init : goal.loop-w-init
+unfolding waiting places_in place top
+loop-w-init g c = rw (c.new-run.ensures, c.new-stack.ensures) (record { ahead = refl; levels = omega arith })
 
-pub next-r-requires : goal.next-r-requires
-next-r-requires c = c.loop-r.invariant.0
+pub returns-in_default-clause-scanned : goal.returns-in_default-clause-scanned
+returns-in_default-clause-scanned g c =
+    let s = c.args.symbols in
+    let ws = c.args.ws.now in
+    sym (scan_left s c.loop-w.w-index ws c.loop-w-test.true) ∙ ap (λ (qs : List Place). judge s qs (drop c.loop-w.w-index ws)) (sym (c.in_default.ensures.none refl)) ∙ c.loop-w.invariant.ahead
 
-pub shape_of-stack-then-r-eq0 : goal.shape_of-stack-then-r-eq0
-shape_of-stack-then-r-eq0 c = c.loop-r.invariant.2
+pub returns-in-Err-clause-scanned : goal.returns-in-Err-clause-scanned
+returns-in-Err-clause-scanned g c =
+    let s = c.args.symbols in
+    let ws = c.args.ws.now in
+    sym (scan_fault s c.loop-w.w-index ws c.loop-w-test.true c.in-Some.next c.next.new.self c.in-Some.ensures.some _ c.in-Err.ensures (λ z. omega (arith, number_some c.in-Err.refusal)))
+    ∙ ap (λ (qs : List Place). judge s qs (drop c.loop-w.w-index ws)) c.in-Some.ensures.places ∙ c.loop-w.invariant.ahead
 
-pub returns-then-r-eq0 : goal.returns-then-r-eq0
-unfolding ahead
-returns-then-r-eq0 c = scanned (omega arith) (scan_done c.next-r.result.category c.next-r.result.context c.next-r.result.left c.next-r.result.count _ (rest_as (sym c.next-r.ensures.0) c.loop-r.invariant.1) (c.next-r.ensures.0 ∙ c.next-r.ensures.2 c.if-r-eq0.true))
+pub loop-w-preserved-then-kind_bit-ne0 : goal.loop-w-preserved-then-kind_bit-ne0
+unfolding leaves
+loop-w-preserved-then-kind_bit-ne0 g c =
+    let s = c.args.symbols in
+    let ws = c.args.ws.now in
+    let ahead =
+    sym (scan_leaf s c.loop-w.w-index ws c.loop-w-test.true c.in-Some.next c.next.new.self c.in-Some.ensures.some c.in_default-fault.ensures (omega (arith, c.in-Some.ensures.levels)) (λ z. c.if-kind_bit-ne0.true (c.kind_bit.ensures.0 ∙ z)))
+    ∙ ap (λ (qs : List Place). judge s qs (drop c.loop-w.w-index ws)) c.in-Some.ensures.places ∙ c.loop-w.invariant.ahead
+    in
+    rw c.new-rest.ensures (record { ahead = ahead; levels = c.in-Some.ensures.levels })
 
-pub shape_of-stack-then-ws-at : goal.shape_of-stack-then-ws-at
-shape_of-stack-then-ws-at c = c.loop-r.invariant.2
+pub returns-then-not-has_room-clause-long : goal.returns-then-not-has_room-clause-long
+returns-then-not-has_room-clause-long g c = λ z.
+    let d = scan_depth c.args.symbols c.loop-w.w-index c.args.ws.now c.loop-w-test.true c.in-Some.next c.next.new.self c.in-Some.ensures.some c.in_default-fault.ensures in
+    let l = c.in-Some.ensures.levels in
+    grind (arith, nat_tests, d, l)
 
-pub returns-then-ws-at : goal.returns-then-ws-at
-unfolding ahead
-returns-then-ws-at c = scanned (omega arith) (scan_end c.next-r.result.category c.next-r.result.context c.next-r.result.left c.next-r.result.count _ (rest_as (sym c.next-r.ensures.0) c.loop-r.invariant.1) c.if-r-eq0.false c.if-ws-at.true)
-
-pub shape_of-stack-then-f-ne0 : goal.shape_of-stack-then-f-ne0
-shape_of-stack-then-f-ne0 c = c.loop-r.invariant.2
-
-pub returns-then-f-ne0 : goal.returns-then-f-ne0
-unfolding ahead
-returns-then-f-ne0 c = scanned (fault_six _ _ _ _ c.fault-f.ensures) (scan_fault c.next-r.result.category c.next-r.result.context c.next-r.result.left c.next-r.result.count _ (rest_as (sym c.next-r.ensures.0) c.loop-r.invariant.1) c.if-r-eq0.false c.fault-f.result c.if-ws-at.false c.fault-f.ensures c.if-f-ne0.true)
-
-pub overflow_add-at : goal.overflow_add-at
-overflow_add-at c = omega (arith, c.if-ws-at.false)
-
-pub overflow_sub-run : goal.overflow_sub-run
-overflow_sub-run c = omega (arith, c.if-r-eq0.false)
-
-pub loop-r-smaller-then-kind_bit-ne0 : goal.loop-r-smaller-then-kind_bit-ne0
-loop-r-smaller-then-kind_bit-ne0 c = omega (arith, c.if-ws-at.false)
-
-pub loop-r-preserved-then-kind_bit-ne0 : goal.loop-r-preserved-then-kind_bit-ne0
-unfolding ahead leaves
-loop-r-preserved-then-kind_bit-ne0 c =
-    let le : c.next-r.result.left ≤ max_depth = omega (arith, c.next-r.ensures.1.levels) in
-    (record { fields = record { category = c.next-r.ensures.1.fields.category; context = c.next-r.ensures.1.fields.context; count = omega (arith, c.next-r.ensures.1.fields.count) }; room = c.next-r.ensures.1.room; levels = c.next-r.ensures.1.levels }, scan_leaf c.next-r.result.category c.next-r.result.context c.next-r.result.left c.next-r.result.count _ (rest_as (sym c.next-r.ensures.0) c.loop-r.invariant.1) c.if-r-eq0.false c.fault-f.result c.if-ws-at.false c.fault-f.ensures c.if-f-ne0.false le (λ z. c.if-kind_bit-ne0.true (c.kind_bit.ensures.0 ∙ z)), c.loop-r.invariant.2)
-
-pub overflow_add-r : goal.overflow_add-r
-overflow_add-r c = omega (arith, c.next-r.ensures.1.levels)
-
-pub shape_of-stack-then-stack-r : goal.shape_of-stack-then-stack-r
-shape_of-stack-then-stack-r c = c.loop-r.invariant.2
-
-pub returns-then-stack-r : goal.returns-then-stack-r
-unfolding ahead
-returns-then-stack-r c =
-    let d = scan_depth c.next-r.result.category c.next-r.result.context c.next-r.result.left c.next-r.result.count _ (rest_as (sym c.next-r.ensures.0) c.loop-r.invariant.1) c.if-r-eq0.false c.fault-f.result c.if-ws-at.false c.fault-f.ensures c.if-f-ne0.false in
-    scanned_short refl (omega (arith, d, c.if-stack-r.true, c.loop-r.invariant.2, c.next-r.ensures.1.levels))
-
-pub overflow_sub-r : goal.overflow_sub-r
-overflow_sub-r c = omega (arith, c.if-r-eq0.false)
-
-pub push-t-requires : goal.push-t-requires
-unfolding ahead
-push-t-requires c =
-    let d = scan_depth c.next-r.result.category c.next-r.result.context c.next-r.result.left c.next-r.result.count _ (rest_as (sym c.next-r.ensures.0) c.loop-r.invariant.1) c.if-r-eq0.false c.fault-f.result c.if-ws-at.false c.fault-f.ensures c.if-f-ne0.false in
-    (record { category = c.next-r.ensures.1.fields.category; context = c.next-r.ensures.1.fields.context; count = omega (arith, c.next-r.ensures.1.fields.count) }, c.next-r.ensures.1.room, omega (arith, c.if-stack-r.false), c.next-r.ensures.1.levels)
-
-pub overflow_sub-r-then-kind_bit-eq0 : goal.overflow_sub-r-then-kind_bit-eq0
-unfolding ahead
-overflow_sub-r-then-kind_bit-eq0 c =
-    let d = scan_depth c.next-r.result.category c.next-r.result.context c.next-r.result.left c.next-r.result.count _ (rest_as (sym c.next-r.ensures.0) c.loop-r.invariant.1) c.if-r-eq0.false c.fault-f.result c.if-ws-at.false c.fault-f.ensures c.if-f-ne0.false in
-    omega arith
+pub overflow_sub-next-in-loop-w : goal.overflow_sub-next-in-loop-w
+overflow_sub-next-in-loop-w g c = scan_depth c.args.symbols c.loop-w.w-index c.args.ws.now c.loop-w-test.true c.in-Some.next c.next.new.self c.in-Some.ensures.some c.in_default-fault.ensures
 
 pub children-run-requires : goal.children-run-requires
-unfolding ahead leaves plain
-children-run-requires c =
-    let d = scan_depth c.next-r.result.category c.next-r.result.context c.next-r.result.left c.next-r.result.count _ (rest_as (sym c.next-r.ensures.0) c.loop-r.invariant.1) c.if-r-eq0.false c.fault-f.result c.if-ws-at.false c.fault-f.ensures c.if-f-ne0.false in
-    (record { leaf = sym c.kind_bit.ensures.0 ∙ c.if-kind_bit-ne0.false; kind = sym c.kind_bit-in-loop-r.ensures.0 ∙ c.if-kind_bit-eq0.true; known = scan_known c.next-r.result.category c.next-r.result.context c.next-r.result.left c.next-r.result.count _ (rest_as (sym c.next-r.ensures.0) c.loop-r.invariant.1) c.if-r-eq0.false c.fault-f.result c.if-ws-at.false c.fault-f.ensures c.if-f-ne0.false }, c.push-t.ensures.room, omega (arith, c.if-stack-r.false, c.push-t.ensures.few, c.push-t.auto.stack), omega (arith, d, c.next-r.ensures.1.levels, c.push-t.ensures.few), c.next-r.ensures.1.fields.context)
+unfolding leaves
+children-run-requires g c =
+    let d = scan_depth c.args.symbols c.loop-w.w-index c.args.ws.now c.loop-w-test.true c.in-Some.next c.next.new.self c.in-Some.ensures.some c.in_default-fault.ensures in
+    let room : length c.next.new.self + 4 ≤ g.row.N = c.has_room.ensures.0 c.if-not-has_room.false in (
+      search rules,
+      (
+        sym c.kind_bit.ensures.0 ∙ c.if-kind_bit-ne0.false,
+        (
+          scan_allowed c.args.symbols c.loop-w.w-index c.args.ws.now c.loop-w-test.true c.in-Some.next c.next.new.self c.in-Some.ensures.some c.in_default-fault.ensures,
+          (omega (arith, c.push.ensures.few, room), omega (arith, d, c.push.ensures.few, c.in-Some.ensures.levels)),
+        ),
+      ),
+    )
 
-pub loop-r-smaller-then-kind_bit-eq0 : goal.loop-r-smaller-then-kind_bit-eq0
-loop-r-smaller-then-kind_bit-eq0 c = omega (arith, c.if-ws-at.false)
+pub loop-w-preserved : goal.loop-w-preserved
+loop-w-preserved g c =
+    let s = c.args.symbols in
+    let ws = c.args.ws.now in
+    let ahead =
+    sym (scan_below s c.loop-w.w-index ws c.loop-w-test.true c.in-Some.next c.next.new.self c.in-Some.ensures.some c.in_default-fault.ensures (omega (arith, c.in-Some.ensures.levels)) c.push.new.self (c.children-run.result ∷ c.children-run.new.stack)
+    (c.push.ensures.places ∙ ap (λ (r : Run). waiting (r ∷ c.next.new.self)) c.new-rest.ensures) c.children-run.ensures.places)
+    ∙ ap (λ (qs : List Place). judge s qs (drop c.loop-w.w-index ws)) c.in-Some.ensures.places ∙ c.loop-w.invariant.ahead
+    in
+    record { ahead = ahead; levels = c.children-run.ensures.levels }
 
-pub loop-r-preserved-then-kind_bit-eq0 : goal.loop-r-preserved-then-kind_bit-eq0
-unfolding ahead
-loop-r-preserved-then-kind_bit-eq0 c =
-    let le : c.next-r.result.left ≤ max_depth = omega (arith, c.next-r.ensures.1.levels) in
-    (c.children-run.ensures.1, scan_below c.next-r.result.category c.next-r.result.context c.next-r.result.left c.next-r.result.count _ (rest_as (sym c.next-r.ensures.0) c.loop-r.invariant.1) c.if-r-eq0.false c.fault-f.result c.if-ws-at.false c.fault-f.ensures c.if-f-ne0.false le _ c.push-t.ensures.places c.children-run.ensures.0, c.children-run.auto.stack ∙ c.push-t.auto.stack ∙ c.loop-r.invariant.2)
+pub returns-in-Some-next-clause-scanned : goal.returns-in-Some-next-clause-scanned
+returns-in-Some-next-clause-scanned g c =
+    let s = c.args.symbols in
+    let ws = c.args.ws.now in
+    sym (scan_end s c.loop-w.w-index ws c.in-Some-next.field-0 c.next-2.new.self c.in-Some-next.ensures.some c.loop-w-test.false)
+    ∙ ap (λ (qs : List Place). judge s qs (drop c.loop-w.w-index ws)) c.in-Some-next.ensures.places ∙ c.loop-w.invariant.ahead
 
-pub overflow_sub-run-in-loop-r : goal.overflow_sub-run-in-loop-r
-unfolding ahead
-overflow_sub-run-in-loop-r c =
-    let d = scan_depth c.next-r.result.category c.next-r.result.context c.next-r.result.left c.next-r.result.count _ (rest_as (sym c.next-r.ensures.0) c.loop-r.invariant.1) c.if-r-eq0.false c.fault-f.result c.if-ws-at.false c.fault-f.ensures c.if-f-ne0.false in
-    omega arith
-
-pub loop-r-smaller : goal.loop-r-smaller
-loop-r-smaller c = omega (arith, c.if-ws-at.false)
-
-pub loop-r-preserved : goal.loop-r-preserved
-unfolding ahead plain
-loop-r-preserved c =
-    let w = get_or c.args.ws.now c.loop-r.at 0 in
-    let le : c.next-r.result.left ≤ max_depth = omega (arith, c.next-r.ensures.1.levels) in
-    let d = scan_depth c.next-r.result.category c.next-r.result.context c.next-r.result.left c.next-r.result.count _ (rest_as (sym c.next-r.ensures.0) c.loop-r.invariant.1) c.if-r-eq0.false c.fault-f.result c.if-ws-at.false c.fault-f.ensures c.if-f-ne0.false in
-    (record { fields = record { category = omega arith; context = omega arith; count = omega (arith, c.child_count.ensures, children_le (kind_of w) (payload_of w), payload_lt w) }; room = c.push-t.ensures.room; levels = omega (arith, d, c.next-r.ensures.1.levels, c.push-t.ensures.few) }, scan_plain c.next-r.result.category c.next-r.result.context c.next-r.result.left c.next-r.result.count _ (rest_as (sym c.next-r.ensures.0) c.loop-r.invariant.1) c.if-r-eq0.false c.fault-f.result c.if-ws-at.false c.fault-f.ensures c.if-f-ne0.false c.child_count.result le (λ z. c.if-kind_bit-eq0.false (c.kind_bit-in-loop-r.ensures.0 ∙ z)) c.child_count.ensures c.push-t.ensures.places, c.push-t.auto.stack ∙ c.loop-r.invariant.2)
+pub returns-in-None-clause-scanned : goal.returns-in-None-clause-scanned
+returns-in-None-clause-scanned g c =
+    let s = c.args.symbols in
+    let ws = c.args.ws.now in
+    sym (scan_done s c.loop-w.w-index ws c.loop-w-test.false) ∙ ap (λ (qs : List Place). judge s qs (drop c.loop-w.w-index ws)) (sym (c.in-None.ensures.none refl)) ∙ c.loop-w.invariant.ahead

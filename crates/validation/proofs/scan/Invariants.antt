@@ -1,14 +1,10 @@
-use Rattle.validation.specs.Walked.{Rest, ahead, Good}
-use Rattle.grammar.specs.Scan.{place}
-use Rattle.grammar.specs.Grammar.{module'}
-use lib.ListN.{length}
-use Prim.Native.Nat.{◌-◌}
-use mathlib.Core.List.{[], ◌∷◌}
-use mathlib.Core.Path.{◌≡◌}
+use Rattle.std.proofs.Common.{◌≡◌, ◌≤◌, ◌+◌, ◌*◌, [], ◌∷◌, length, drop}
+use Rattle.grammar.specs.Scan.{top, judge}
+use Rattle.validation.specs.Waiting.{waiting}
 use Rattle.validation.proofs.scan.Given as goal
 
-abbrev pub invariant-loop-r : goal.invariant-loop-r
-invariant-loop-r l = Good l.stack l.run × Rest l.s l.ws 0 (place module' 1 ∷ []) l.at (ahead l.stack l.run) × (length l.stack ≡ length l.initial.stack)
-
-abbrev pub decreases-loop-r : goal.decreases-loop-r
-decreases-loop-r l = length l.ws - l.at
+abbrev pub invariant-loop-w : goal.invariant-loop-w
+invariant-loop-w g l = record {
+  ahead : judge l.symbols (waiting (l.run ∷ l.stack)) (drop l.w-index l.ws) ≡ judge l.symbols (top ∷ []) l.ws;
+  levels : length l.stack + 4 * l.run.left ≤ 256;
+}

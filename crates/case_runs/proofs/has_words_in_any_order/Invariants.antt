@@ -1,6 +1,0 @@
--- `has_words_in_any_order`: it ends with the lent words.
-use Rattle.std.proofs.Common.{◌-◌, length}
-use Rattle.case_runs.proofs.has_words_in_any_order.Given as goal
-
-abbrev pub decreases-loop-i : goal.decreases-loop-i
-decreases-loop-i l = length l.out - l.i
