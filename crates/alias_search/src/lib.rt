@@ -1,7 +1,9 @@
 // Rule 6's search, by the words as read: does 9:C or 18:C stand in what some records become? No state, no alias and no output is needed for it.
+// Rows of records are readers; one record is its place beside the words and their notes, since nothing is read behind it.
 #![tactic(auto)]
 
 ghost use Rattle.std.specs.Prelude.{◌≡◌, cond, ◌&&◌, ◌<◌, length};
+ghost use Rattle.words.specs.Kinds.{number};
 ghost use Rattle.records.specs.Ends.{Ends};
 ghost use Rattle.records.specs.Place.{label_at, kids_at};
 ghost use Rattle.rewriting.specs.Parts.{elements_of, id_of, has_private_in, is_decorated};
@@ -11,6 +13,7 @@ ghost use Rattle.alias_search.specs.Walk.{but_28, part};
 
 use inspect::Reader;
 use records::Note;
+use words::Kind;
 
 // In the rewritten elements of the class at `at`: its member decorators have left them (rule 6).
 pub fn mentions_in_body(ws: &[u32], notes: &[Note], at: usize, c: u32) -> bool
@@ -44,9 +47,9 @@ fn mentions_record(ws: &[u32], notes: &[Note], at: usize, c: u32) -> bool
         return true;
     }
     match inspect::kind_at(ws, at) {
-        4 => class_statement(ws, notes, at, c),
-        30 => method(ws, notes, at, c),
-        31 | 32 => mentions(undecorated(ws, notes, at), c),
+        Some(Kind::ClassStatement) => class_statement(ws, notes, at, c),
+        Some(Kind::Method) => method(ws, notes, at, c),
+        Some(Kind::Property | Kind::AbstractAccessor) => mentions(undecorated(ws, notes, at), c),
         _ => mentions(inspect::children(ws, notes, at), c),
     }
 }
@@ -57,8 +60,10 @@ fn mentions_word(ws: &[u32], notes: &[Note], at: usize, c: u32) -> bool
     ensures { result ≡ mentions_word c (label_at ws.now at) (kids_at ws.now at) }
 {
     match inspect::kind_at(ws, at) {
-        4 => inspect::is_live(ws, at + 1) && names(ws, notes, at + 1, c),
-        9 | 18 => inspect::payload_at(ws, at) == c,
+        Some(Kind::ClassStatement) => {
+            inspect::is_live(ws, at + 1) && names(ws, notes, at + 1, c)
+        }
+        Some(Kind::Identifier | Kind::Assignment) => inspect::payload_at(ws, at) == c,
         _ => false,
     }
 }
@@ -93,7 +98,7 @@ fn undecorated<'a>(ws: &'a [u32], notes: &'a [Note], at: usize) -> Reader<'a>
     ensures { Reads result ws.now (but_28 (kids_at ws.now at)) × (at < result.at) }
 {
     let r = inspect::children(ws, notes, at);
-    if inspect::kind_at(ws, r.at) == 28 {
+    if inspect::is_kind_at(ws, r.at, Kind::Decorators) {
         r.behind(1)
     } else {
         r
@@ -119,7 +124,7 @@ fn bare_method(ws: &[u32], notes: &[Note], at: usize, c: u32) -> bool
     requires { Ends ws.now notes.now 0 × (at < length ws.now) }
     ensures { result ≡ mentions_by c of_method (kids_at ws.now at) }
 {
-    but_first(undecorated(ws, notes, at), 36, c)
+    but_first(undecorated(ws, notes, at), Kind::Parameters, c)
         || parameters(inspect::parameters_of(ws, notes, at), c)
 }
 
@@ -147,13 +152,14 @@ fn parameter(ws: &[u32], notes: &[Note], at: usize, c: u32) -> bool
 
 // In the records but the children of the first of a kind.
 #[cycle(mentions)]
-fn but_first(mut records: Reader, kind: u32, c: u32) -> bool
-    requires { 18 < kind }
-    ensures { result ≡ mentions_by c (until kind gone) (rest records.entry) }
+fn but_first(mut records: Reader, kind: Kind, c: u32) -> bool
+    requires { 18 < number kind }
+    ensures { result ≡ mentions_by c (until (number kind) gone) (rest records.entry) }
 {
     let Reader { words, notes, .. } = records;
+    // Not a `for`: the records behind the one that is found are asked another question.
     while let Some(q) = records.next() {
-        if inspect::kind_at(words, q) == kind {
+        if inspect::is_kind_at(words, q, kind) {
             return mentions(records, c);
         }
         if mentions_record(words, notes, q, c) {
@@ -183,7 +189,7 @@ fn live_class(ws: &[u32], notes: &[Note], at: usize, c: u32) -> bool
     requires { Ends ws.now notes.now 0 × (at < length ws.now) }
     ensures { result ≡ mentions_by c (of_class c (kids_at ws.now at)) (kids_at ws.now at) }
 {
-    but_first(searched_children(ws, notes, at), 29, c) || class_elements(ws, notes, at, c)
+    but_first(searched_children(ws, notes, at), Kind::Body, c) || class_elements(ws, notes, at, c)
 }
 
 // The children of the live class at `at`, without its decorators where they are dropped.
@@ -233,6 +239,7 @@ fn elements(mut records: Reader, dropped: bool, c: u32) -> bool
     ensures { result ≡ mentions_by c (elements (cond dropped of_method of_field)) (rest records.entry) }
 {
     let Reader { words, notes, .. } = records;
+    // Not a `for`, as in `but_first`.
     while let Some(q) = records.next() {
         if inspect::is_constructor_at(words, q) {
             return constructor(words, notes, q, dropped, c) || all_elements(records, c);

@@ -8,7 +8,7 @@ ghost use Rattle.std.specs.Prelude.{◌≤◌, IfOk};
 use anyhow::{Context, Result};
 use case_lines::{Outcome, Tally};
 use grammar::Refusal;
-use rewriter::Written;
+use rewriter::{Numbers, Written};
 use std::alloc::Global;
 
 // What both calls answer.
@@ -16,29 +16,6 @@ type Answer = std::result::Result<Written, Refusal>;
 
 // A word that no module has.
 const MARK: u32 = 4294967295;
-
-// The numbers of an answer.
-#[derive(Clone, Copy, PartialEq, Eq, Debug)]
-struct Numbers {
-    code: u32,
-    written: usize,
-    fresh: u32,
-}
-
-fn numbers_of(answer: Answer) -> Numbers {
-    match answer {
-        Ok(Written { words, fresh }) => Numbers {
-            code: 0,
-            written: words,
-            fresh,
-        },
-        Err(refusal) => Numbers {
-            code: u32::from(refusal),
-            written: 0,
-            fresh: 0,
-        },
-    }
-}
 
 // Whether the lent words begin with the expected ones and keep the mark behind them.
 fn has_words(expected: &[u32], out: &[u32]) -> bool {
@@ -77,7 +54,7 @@ where
     let module = case_lines::read_words(alloc, items)?;
     let expected = case_lines::read_words(alloc, expected.split_whitespace())?;
     let mut out = vec![in alloc; MARK; room]?;
-    let numbers = numbers_of(call(&module, &mut out));
+    let numbers = Numbers::from(call(&module, &mut out));
     Ok(Outcome {
         right: numbers == expected_numbers
             && numbers.written == expected.len()

@@ -5,6 +5,8 @@ ghost use Rattle.std.specs.Prelude.{◌≡◌, [], ◌∷◌, ◌+◌, ◌<◌};
 ghost use Rattle.records.specs.Label.{word_at, ◌∶◌};
 ghost use Rattle.class_stack.specs.Renaming.{Ready, capacity, subs, swapped, rename_p, rename_l};
 
+use words::Kind;
+
 // How many classes deep.
 pub const CAPACITY: usize = 16;
 
@@ -67,8 +69,8 @@ pub fn word(s: ClassStack, k: u32, p: u32) -> u32
     if s.depth == 0 {
         return words::word_of(k, p);
     }
-    match k {
-        9 | 18 => words::word_of(k, renamed(s, p)),
+    match Kind::named(k) {
+        Some(Kind::Identifier | Kind::Assignment) => words::word_of(k, renamed(s, p)),
         _ => words::word_of(k, p),
     }
 }

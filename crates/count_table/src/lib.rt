@@ -10,6 +10,7 @@ ghost use Rattle.count_table.specs.Note.{Behind, Leads, is_live_class, Clear};
 use counter::Total;
 use records::Note;
 use rewriting::Around;
+use words::Kind;
 
 // The notes of all places of the words, their ends and aliases as they were. All ids are below s.
 pub fn find_counts(ws: &[u32], notes: &mut [Note], s: u32)
@@ -28,7 +29,7 @@ fn next_change(ws: &[u32], notes: &[Note], i: usize, next: usize) -> usize
     requires { (i < length ws.now) × Planned ws.now notes.now × Clear ws.now (i + 1) next }
     ensures { Clear ws.now i result }
 {
-    if notes[i].marked || inspect::kind_at(ws, i) == 1 {
+    if notes[i].marked || inspect::is_kind_at(ws, i, Kind::Module) {
         return i;
     }
     next
@@ -64,7 +65,7 @@ fn is_live_class(ws: &[u32], at: usize) -> bool
     requires { at < length ws.now }
     ensures { result ≡ is_live_class ws.now at }
 {
-    inspect::kind_at(ws, at) == 4 && inspect::is_live(ws, at + 1)
+    inspect::is_kind_at(ws, at, Kind::ClassStatement) && inspect::is_live(ws, at + 1)
 }
 
 // What a class statement whose class is live leads to (rules 4 to 6).

@@ -1,5 +1,6 @@
 // The next fresh symbol and the default symbol of the class around, behind some records (rules 1 and 4 to 6). Reads the words and their notes, writes
 // nothing; walks no further down than to the elements of a class, since the notes say the rest.
+// A place stands beside the number of records, not in a `Reader`: what is behind them is answered as a place, and the walk goes on from there.
 #![tactic(auto)]
 
 ghost use Rattle.std.specs.Prelude.{◌≡◌, true, false, ◌||◌, ◌+◌, ◌<◌, ◌≤◌, length, get_or, is_some, None};
@@ -11,6 +12,7 @@ ghost use Rattle.counter.specs.Contract.{is_walked, unlive, Planned, Ready, Coun
 
 use records::Note;
 use rewriting::{Around, State};
+use words::Kind;
 
 // The state behind some records, and where they end.
 #[derive(Clone, Copy)]
@@ -137,17 +139,18 @@ fn total_record(ws: &[u32], notes: &[Note], at: usize, a: Around, has: bool) -> 
     if !a.live {
         return from_note(notes[at]);
     }
-    if is_walked(inspect::kind_at(ws, at)) {
+    if is_walked(ws, at) {
         return total_records(ws, notes, at + 1, inspect::children_at(ws, at), a, has);
     }
     total_single(ws, notes, at, a, has)
 }
 
-// A class or a body?
-fn is_walked(kind: u32) -> bool
-    ensures { result ≡ is_walked kind }
+// Is the record at `at` a class or a body?
+#[tactic(auto, unfolding(crate::specs::Contract::is_walked))]
+fn is_walked(ws: &[u32], at: usize) -> bool
+    ensures { result ≡ is_walked (label_at ws.now at).kind }
 {
-    kind == 26 || kind == 29
+    matches!(inspect::kind_at(ws, at), Some(Kind::Class | Kind::Body))
 }
 
 // Of the records that are neither a class nor a body only a decorated member of a live class depends on the class around: all else is in the note.
@@ -160,7 +163,9 @@ fn total_single(ws: &[u32], notes: &[Note], at: usize, a: Around, has: bool) -> 
         return from_note(note);
     }
     match inspect::kind_at(ws, at) {
-        30 | 31 | 32 => total_element(ws, notes, at, a, has),
+        Some(Kind::Method | Kind::Property | Kind::AbstractAccessor) => {
+            total_element(ws, notes, at, a, has)
+        }
         _ => from_note(note),
     }
 }

@@ -4,12 +4,10 @@
 
 ghost use Rattle.std.specs.Prelude.{◌≡◌, ◌≤◌, length, IfOk};
 ghost use Rattle.line_reader.specs.Text.{Ready};
-ghost use Rattle.rewriter.specs.Numbers.{numbers_of};
 ghost use Rattle.gingerpost.specs.Arguments.{Means};
 
-use grammar::Refusal;
 use line_reader::{Fault, Reading, Stage};
-use rewriter::Written;
+use rewriter::Numbers;
 use std::env::FillError;
 use std::io::{ErrorKind, Read, Write};
 use std::rt::{Env, Files};
@@ -67,39 +65,14 @@ enum Failure<'a> {
     Line(u64, Fault),
 }
 
-// The numbers of an answer.
-#[derive(Clone, Copy)]
-struct Numbers {
-    code: u32,
-    written: usize,
-    fresh: u32,
-}
-
-fn numbers_of(answer: Result<Written, Refusal>) -> Numbers
-    ensures { result.written ≡ (numbers_of answer).written }
-{
-    match answer {
-        Ok(Written { words, fresh }) => Numbers {
-            code: 0,
-            written: words,
-            fresh,
-        },
-        Err(refusal) => Numbers {
-            code: u32::from(refusal),
-            written: 0,
-            fresh: 0,
-        },
-    }
-}
-
 impl Job {
     // Writes the words of the answer.
     fn answer(self, ws: &[u32], out: &mut [u32]) -> Numbers
         ensures { result.written ≤ length out.new }
     {
         match self {
-            Job::Rewrite => numbers_of(rewriter::rewrite(ws, out)),
-            Job::Report => numbers_of(symbol_report::report(ws, out)),
+            Job::Rewrite => Numbers::from(rewriter::rewrite(ws, out)),
+            Job::Report => Numbers::from(symbol_report::report(ws, out)),
         }
     }
 }

@@ -1,5 +1,5 @@
 -- The sets of kinds that `is_allowed` reads say what the table says. Assumes nothing.
-use Rattle.std.specs.Prelude.{◌≡◌, Bool, false, cond, ℕ, ◌<◌, ◌^◌, eqb, replicate}
+use Rattle.std.specs.Prelude.{◌≡◌, Bool, false, cond, not, ℕ, ◌<◌, ◌^◌, eqb, replicate}
 use Rattle.std.proofs.Math.Path.{refl}
 use Rattle.std.proofs.Common.{sym, ap, subst, ◌∙◌, arith}
 use Rattle.std.proofs.Math.Bool.{true}
@@ -10,10 +10,10 @@ use borrow.Author.Tests.{eqb-true, eq-eqb, ne_eqb}
 use Rattle.words.specs.Table.{lookup, both, every, below_all}
 use Rattle.words.specs.Word.{kind_lt}
 use Rattle.words.specs.Shape.{bit_of, bit_one}
-use Rattle.grammar.specs.Grammar.{slot, row, no_row, table, row_of, holds, allowed}
+use Rattle.grammar.specs.Grammar.{slot, row, no_row, table, row_of, holds, allowed, is_symbol}
 use Rattle.grammar.proofs.Rows.{test_left, test_right, implied, allowed_row, allowed_known, sole_kind, kind_sole}
 use Rattle.grammar.specs.Scan.{place, too_many_symbols, decorated_constructor}
-use Rattle.grammar.specs.Sets.{kind_sets, kinds_of, free, empty, flag_rule, rule_by, limited}
+use Rattle.grammar.specs.Sets.{kind_sets, kinds_of, free, empty, flag_rule, rule_by, limited, with_symbol}
 
 -- ---- two tests of every kind
 
@@ -107,7 +107,25 @@ pub undecorated : (c x d k p : ℕ) → allowed (slot c x) k p ≡ true → bit_
 unfolding decorated_constructor place bit_of limited sole_kind lookup
 undecorated c x d k p a z = rw (ne_eqb c 7 (λ e. unlimited k 28 refl z (kind_sole k 7 ((allowed_row (slot c x) k p a).0 ∙ e) tt)))
 
--- what `is_allowed` and `fault` are proved by
+-- ---- the kinds whose payload is a symbol
+
+-- a kind is in the set exactly if it is one of them
+unfoldable same_test : ℕ → Bool
+same_test k = cond (is_symbol k) (not (eqb (bit_of with_symbol k) 0)) (eqb (bit_of with_symbol k) 0)
+
+pub symbol_in : (k : ℕ) → k < 64 → not (eqb (bit_of with_symbol k) 0) ≡ is_symbol k
+unfolding same_test every both bit_of is_symbol lookup with_symbol
+symbol_in k h = go (is_symbol k) (eqb (bit_of with_symbol k) 0) (below_all same_test 64 tt k h)
+  where
+    go : (x y : Bool) → T (cond x (not y) y) → not y ≡ x
+    go true true t = absurd t
+    go true false t = refl
+    go false true t = refl
+    go false false t = absurd t
+
+-- what `is_allowed`, `is_symbol` and `fault` are proved by
 pub ruleset set_laws = (kind_lt, bit_one, category_in, not_in, free_in, empty_in, flag_in)
+
+pub ruleset symbol_laws = (kind_lt, symbol_in)
 
 pub ruleset limit_laws = (few_symbols, undecorated)

@@ -30,3 +30,7 @@ rule_by k = cond (eqb (bit_of free k) 1) any (cond (eqb (bit_of empty k) 1) zero
 -- the kinds that have a limit of their own, 28 and 40
 unfoldable pub limited : ℕ
 limited = 1099780063232
+
+-- the kinds whose payload is a symbol
+unfoldable pub with_symbol : ℕ
+with_symbol = 134480608

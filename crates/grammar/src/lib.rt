@@ -10,6 +10,8 @@ ghost use Rattle.grammar.specs.Refusals.{number_of, code_of};
 ghost use Rattle.grammar.specs.Sets.{kinds_of, flag_rule};
 ghost use Rattle.grammar.specs.Scan.{place, unknown_symbol, too_many_symbols, decorated_constructor, fault_at};
 
+use words::Kind;
+
 // The most words of a module.
 pub const MAX_WORDS: usize = 4096;
 
@@ -54,9 +56,9 @@ pub enum Slot {
     // One of the module's own list.
     OwnStatement,
     Expression,
-    // A key: 34, 35 or any expression.
+    // A key: a name, a private name or any expression.
     Key,
-    // The classes under 4:0, 4:1, 4:2 and 20.
+    // The class of a plain statement, of an exported one, of a default export and of an expression.
     PlainClass,
     ExportedClass,
     DefaultClass,
@@ -77,58 +79,80 @@ pub enum Slot {
 }
 
 // Sets of kinds, bit k for the kind k. Sets and not `matches!`: a word is tested by one shift, and no branch goes by its kind (speed). The statements, the expressions, the elements of a class.
-const STATEMENTS: u64 = 1 << 2 | 1 << 3 | 1 << 4 | 1 << 5 | 1 << 6 | 1 << 7;
+const STATEMENTS: u64 = 1 << Kind::ExpressionStatement as u32
+    | 1 << Kind::Block as u32
+    | 1 << Kind::ClassStatement as u32
+    | 1 << Kind::Let as u32
+    | 1 << Kind::Export as u32
+    | 1 << Kind::DefaultExport as u32;
 
-const EXPRESSIONS: u64 = 1 << 8
-    | 1 << 9
-    | 1 << 10
-    | 1 << 11
-    | 1 << 12
-    | 1 << 13
-    | 1 << 14
-    | 1 << 15
-    | 1 << 16
-    | 1 << 17
-    | 1 << 18
-    | 1 << 19
-    | 1 << 20
-    | 1 << 21
-    | 1 << 22
-    | 1 << 23
-    | 1 << 24
-    | 1 << 25
-    | 1 << 34
-    | 1 << 35;
+const EXPRESSIONS: u64 = 1 << Kind::Atom as u32
+    | 1 << Kind::Identifier as u32
+    | 1 << Kind::String as u32
+    | 1 << Kind::Number as u32
+    | 1 << Kind::Template as u32
+    | 1 << Kind::Null as u32
+    | 1 << Kind::VoidZero as u32
+    | 1 << Kind::This as u32
+    | 1 << Kind::Array as u32
+    | 1 << Kind::Call as u32
+    | 1 << Kind::Assignment as u32
+    | 1 << Kind::PrivateIn as u32
+    | 1 << Kind::ClassExpression as u32
+    | 1 << Kind::Function as u32
+    | 1 << Kind::DecorateCall as u32
+    | 1 << Kind::ParameterCall as u32
+    | 1 << Kind::PrototypeOf as u32
+    | 1 << Kind::Other as u32
+    | 1 << Kind::Name as u32
+    | 1 << Kind::PrivateName as u32;
 
-const ELEMENTS: u64 = 1 << 30 | 1 << 31 | 1 << 32 | 1 << 33;
+const ELEMENTS: u64 = 1 << Kind::Method as u32
+    | 1 << Kind::Property as u32
+    | 1 << Kind::AbstractAccessor as u32
+    | 1 << Kind::StaticBlock as u32;
 
 // The kinds with any payload.
-const FREE: u64 = 1 << 1
-    | 1 << 3
-    | 1 << 5
-    | 1 << 8
-    | 1 << 9
-    | 1 << 10
-    | 1 << 11
-    | 1 << 12
-    | 1 << 16
-    | 1 << 17
-    | 1 << 18
-    | 1 << 19
-    | 1 << 23
-    | 1 << 25
-    | 1 << 27
-    | 1 << 29
-    | 1 << 33
-    | 1 << 36
-    | 1 << 39
-    | 1 << 40;
+const FREE: u64 = 1 << Kind::Module as u32
+    | 1 << Kind::Block as u32
+    | 1 << Kind::Let as u32
+    | 1 << Kind::Atom as u32
+    | 1 << Kind::Identifier as u32
+    | 1 << Kind::String as u32
+    | 1 << Kind::Number as u32
+    | 1 << Kind::Template as u32
+    | 1 << Kind::Array as u32
+    | 1 << Kind::Call as u32
+    | 1 << Kind::Assignment as u32
+    | 1 << Kind::PrivateIn as u32
+    | 1 << Kind::ParameterCall as u32
+    | 1 << Kind::Other as u32
+    | 1 << Kind::Id as u32
+    | 1 << Kind::Body as u32
+    | 1 << Kind::StaticBlock as u32
+    | 1 << Kind::Parameters as u32
+    | 1 << Kind::Code as u32
+    | 1 << Kind::Symbols as u32;
 
 // The kinds with no payload but 0.
-const EMPTY: u64 = 1 << 2 | 1 << 13 | 1 << 14 | 1 << 15 | 1 << 20 | 1 << 21 | 1 << 24;
+const EMPTY: u64 = 1 << Kind::ExpressionStatement as u32
+    | 1 << Kind::Null as u32
+    | 1 << Kind::VoidZero as u32
+    | 1 << Kind::This as u32
+    | 1 << Kind::ClassExpression as u32
+    | 1 << Kind::Function as u32
+    | 1 << Kind::PrototypeOf as u32;
 
 // The kinds that have a limit of their own: decorators and symbols.
-const LIMITED: u64 = 1 << 28 | 1 << 40;
+const LIMITED: u64 = 1 << Kind::Decorators as u32 | 1 << Kind::Symbols as u32;
+
+// The kinds whose payload is a symbol.
+const WITH_SYMBOL: u64 = 1 << Kind::Let as u32
+    | 1 << Kind::Export as u32
+    | 1 << Kind::DefaultExport as u32
+    | 1 << Kind::Identifier as u32
+    | 1 << Kind::Assignment as u32
+    | 1 << Kind::Id as u32;
 
 // The kinds that a slot takes.
 #[tactic(auto, unfolding(crate::specs::Sets::kinds_of, crate::specs::Sets::kind_sets, words::specs::Table::lookup))]
@@ -136,45 +160,49 @@ fn kinds_of(slot: Slot) -> u64
     ensures { result ≡ kinds_of (slot_of slot).category }
 {
     match slot {
-        Slot::Module => 1 << 1,
-        Slot::Symbols => 1 << 40,
+        Slot::Module => 1 << Kind::Module as u32,
+        Slot::Symbols => 1 << Kind::Symbols as u32,
         Slot::Statement | Slot::OwnStatement => STATEMENTS,
         Slot::Expression | Slot::Key => EXPRESSIONS,
-        Slot::PlainClass | Slot::ExportedClass | Slot::DefaultClass | Slot::ClassExpression => 1
-            << 26,
-        Slot::Id => 1 << 27,
-        Slot::Decorators | Slot::ConstructorDecorators | Slot::FunctionDecorators => 1 << 28,
-        Slot::Body => 1 << 29,
+        Slot::PlainClass | Slot::ExportedClass | Slot::DefaultClass | Slot::ClassExpression => {
+            1 << Kind::Class as u32
+        }
+        Slot::Id => 1 << Kind::Id as u32,
+        Slot::Decorators | Slot::ConstructorDecorators | Slot::FunctionDecorators => {
+            1 << Kind::Decorators as u32
+        }
+        Slot::Body => 1 << Kind::Body as u32,
         Slot::Element => ELEMENTS,
-        Slot::Parameters | Slot::FunctionParameters => 1 << 36,
-        Slot::Parameter | Slot::FunctionParameter => 1 << 37,
-        Slot::Code => 1 << 39,
+        Slot::Parameters | Slot::FunctionParameters => 1 << Kind::Parameters as u32,
+        Slot::Parameter | Slot::FunctionParameter => 1 << Kind::Parameter as u32,
+        Slot::Code => 1 << Kind::Code as u32,
     }
 }
 
-// May a word that is of the slot's kinds, but neither FREE nor EMPTY, have the payload.
+// May a word have its payload in a slot that takes its kind, where that is neither FREE nor EMPTY.
 #[tactic(auto, unfolding(crate::specs::Grammar::holds, crate::specs::Sets::flag_rule, words::specs::Word::bit0, words::specs::Word::bit1, words::specs::Table::lookup))]
-fn flags_hold(kind: u32, slot: Slot, payload: u32) -> bool
-    requires { (row_of kind).category ≡ (slot_of slot).category }
-    ensures { result ≡ holds (flag_rule kind) (slot_of slot).context payload }
+fn flags_hold(slot: Slot, w: u32) -> bool
+    requires { (row_of (kind_of w)).category ≡ (slot_of slot).category }
+    ensures { result ≡ holds (flag_rule (kind_of w)) (slot_of slot).context (payload_of w) }
 {
-    match kind {
-        4 => match slot {
+    let payload = words::payload_of(w);
+    match Kind::of(w) {
+        Some(Kind::ClassStatement) => match slot {
             Slot::OwnStatement => payload < 3,
             _ => payload == 0,
         },
-        22 => matches!(payload, 2 | 4),
-        26 => match slot {
+        Some(Kind::DecorateCall) => matches!(payload, 2 | 4),
+        Some(Kind::Class) => match slot {
             Slot::PlainClass | Slot::ExportedClass => payload < 8 && payload % 2 == 1,
             _ => payload < 8 && payload / 2 % 2 == 0,
         },
-        28 => match slot {
+        Some(Kind::Decorators) => match slot {
             Slot::FunctionDecorators => payload == 0,
             _ => true,
         },
-        30 => payload < 8 && payload % 4 != 3,
-        31 => payload < 4,
-        32 | 37 => payload < 2,
+        Some(Kind::Method) => payload < 8 && payload % 4 != 3,
+        Some(Kind::Property) => payload < 4,
+        Some(Kind::AbstractAccessor | Kind::Parameter) => payload < 2,
         _ => matches!(slot, Slot::OwnStatement | Slot::Key),
     }
 }
@@ -185,44 +213,44 @@ fn flags_hold(kind: u32, slot: Slot, payload: u32) -> bool
 fn is_allowed(slot: Slot, w: u32) -> bool
     ensures { result ≡ allowed (slot_of slot) (kind_of w) (payload_of w) }
 {
+    // The tests in turn, not by one `||`: the first that answers is the last one made (speed).
     if words::kind_bit(kinds_of(slot), w) == 0 {
         return false;
     }
     if words::kind_bit(FREE, w) != 0 {
         return true;
     }
-    let payload = words::payload_of(w);
     if words::kind_bit(EMPTY, w) != 0 {
-        return payload == 0;
+        return words::payload_of(w) == 0;
     }
-    flags_hold(words::kind_of(w), slot, payload)
+    flags_hold(slot, w)
 }
 
-// Is the payload of this kind a symbol.
-#[tactic(auto, unfolding(crate::specs::Grammar::is_symbol, words::specs::Table::lookup))]
-pub fn is_symbol(kind: u32) -> bool
-    ensures { result ≡ is_symbol kind }
+// Is the payload of the word a symbol.
+#[tactic(auto, using(crate::proofs::SetLaws::symbol_laws), unfolding(crate::specs::Sets::with_symbol))]
+fn is_symbol(w: u32) -> bool
+    ensures { result ≡ is_symbol (kind_of w) }
 {
-    matches!(kind, 5 | 6 | 7 | 9 | 18 | 27)
+    words::kind_bit(WITH_SYMBOL, w) != 0
 }
 
 // Is it a symbol that isn't one of s.
 #[tactic(auto, unfolding(crate::specs::Scan::unknown_symbol))]
-fn is_unknown_symbol(s: u32, kind: u32, payload: u32) -> bool
-    ensures { result ≡ unknown_symbol s kind payload }
+fn is_unknown_symbol(s: u32, w: u32) -> bool
+    ensures { result ≡ unknown_symbol s (kind_of w) (payload_of w) }
 {
-    is_symbol(kind) && s <= payload
+    is_symbol(w) && s <= words::payload_of(w)
 }
 
-// Is it a 40 over the limit.
+// Is it the number of symbols, and over the limit.
 #[tactic(auto, unfolding(crate::specs::Scan::too_many_symbols))]
-fn is_too_many_symbols(kind: u32, payload: u32) -> bool
-    ensures { result ≡ too_many_symbols kind payload }
+fn is_too_many_symbols(w: u32) -> bool
+    ensures { result ≡ too_many_symbols (kind_of w) (payload_of w) }
 {
-    kind == 40 && MAX_SYMBOLS < payload
+    words::is_kind(w, Kind::Symbols) && MAX_SYMBOLS < words::payload_of(w)
 }
 
-// Is it a constructor's own 28 that isn't empty.
+// Are they a constructor's own decorators, and some.
 #[tactic(auto, unfolding(crate::specs::Scan::decorated_constructor, crate::specs::Scan::place))]
 fn is_decorated_constructor(slot: Slot, payload: u32) -> bool
     ensures { (depth : ℕ) → result ≡ decorated_constructor (place (slot_of slot) depth) payload }
@@ -236,24 +264,22 @@ fn is_decorated_constructor(slot: Slot, payload: u32) -> bool
 pub fn fault(s: u32, slot: Slot, left: u32, w: u32) -> Result<(), Refusal>
     ensures { code_of result ≡ fault_at s (place (slot_of slot) (max_depth + 1 - left)) w }
 {
-    let kind = words::kind_of(w);
-    let payload = words::payload_of(w);
     if !is_allowed(slot, w) {
         return Err(Refusal::Malformed);
     }
     if left == 0 {
         return Err(Refusal::TooDeep);
     }
-    if is_unknown_symbol(s, kind, payload) {
+    if is_unknown_symbol(s, w) {
         return Err(Refusal::UnknownSymbol);
     }
     if words::kind_bit(LIMITED, w) == 0 {
         return Ok(());
     }
-    if is_too_many_symbols(kind, payload) {
+    if is_too_many_symbols(w) {
         return Err(Refusal::TooManySymbols);
     }
-    if is_decorated_constructor(slot, payload) {
+    if is_decorated_constructor(slot, words::payload_of(w)) {
         return Err(Refusal::DecoratedConstructor);
     }
     Ok(())

@@ -1,10 +1,8 @@
 -- The children of the record at a place: the first of a kind, the decorators, the second child. Assumes nothing.
-use Rattle.std.specs.Prelude.{◌≡◌, Bool, cond, List, eqb, length, get_or}
+use Rattle.std.specs.Prelude.{◌≡◌, Bool, cond, List, length, get_or}
 use Rattle.std.proofs.Math.Path.{refl, ap, sym, subst}
 use Rattle.std.proofs.Common.{◌∙◌}
 use Rattle.std.proofs.Math.Bool.{true, false, not}
-use Rattle.std.specs.declared.option.Option.{Option}
-use Rattle.std.specs.declared.option.Option.TheVariants.{None as none, Some as some}
 use Prim.Native.Nat.{ℕ, zero, suc, ◌+◌, ◌-◌, ◌<◌, ◌≤◌}
 use native.Mathlib.Omega.{arith}
 use Rattle.std.proofs.Math.Dec.{ltb}
@@ -16,25 +14,6 @@ use Rattle.records.specs.Label.{Label, Trees, is, read_at}
 use Rattle.records.specs.Place.{records_at, label_at, arity_at, kids_at, end_of, arity_at_children, end_low, end_high, end_add, end_one, end_drop, records_node, records_first, records_past, kids_past, word_past}
 use Rattle.rewriting.specs.Parts.{is_empty, kids_of, decorators}
 use Rattle.inspect.specs.Row.{Test, any_row, Passed, row_split, or_left, or_right, by_end}
-
--- a symbol, or none where the number is one more than the largest payload
-unfoldable pub opt_of : ℕ → Option ℕ
-opt_of n = cond (eqb n 67108864) none (some n)
-
-pub opt_is : (n : ℕ) → (n ≡ 67108864 → ⊥) → opt_of n ≡ some n
-unfolding opt_of
-opt_is n h = rw (ne_eqb n 67108864 h)
-
-pub opt_no : (n : ℕ) → n ≡ 67108864 → opt_of n ≡ none
-unfolding opt_of
-opt_no n e = rw e
-
-pub opt_some : (n : ℕ) → n < 67108864 → opt_of n ≡ some n
-opt_some n h = opt_is n (omega arith)
-
-pub opt_none : opt_of 67108864 ≡ none
-unfolding opt_of
-opt_none = refl
 
 -- ---- the number of children
 

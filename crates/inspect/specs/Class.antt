@@ -105,9 +105,18 @@ pub constructor_at : (ws : List ℕ) (at w : ℕ) → w ≡ get_or ws at 0 → i
 unfolding label_at is_constructor is bit read_at
 constructor_at ws at w e = rw e
 
+pub plain_read : (ws : List ℕ) (at w : ℕ) → w ≡ get_or ws at 0 → is_plain_key (read_at 0 w) ≡ is_plain_key (label_at ws at)
+unfolding label_at is_plain_key is read_at
+plain_read ws at w e = rw e
+
 pub plain_kind : (l : Label) → is_plain_key l ≡ is_plain_key (l.kind ∶ 0)
 unfolding is_plain_key is ◌∶◌
 plain_kind l = refl
+
+-- a key of none of the six kinds of rule 5
+pub not_plain : (l : Label) → (l.kind ≡ 34 → ⊥) → (l.kind ≡ 35 → ⊥) → (l.kind ≡ 10 → ⊥) → (l.kind ≡ 11 → ⊥) → (l.kind ≡ 12 → ⊥) → (l.kind ≡ 13 → ⊥) → is_plain_key l ≡ false
+unfolding is_plain_key is
+not_plain l a b c d e f = rw (ne_eqb _ 34 a, ne_eqb _ 35 b, ne_eqb _ 10 c, ne_eqb _ 11 d, ne_eqb _ 12 e, ne_eqb _ 13 f)
 
 -- ---- members, by their kind
 

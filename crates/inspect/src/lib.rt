@@ -1,10 +1,12 @@
 // The reader, and what is asked of records as they are read, by chains over the places that the reader gives. Reads the words and the notes, writes
 // nothing. Every function takes every place: past the end of the words stands the word 0, and of the k records at a place there are fewer where the words
 // end.
+// The words, their notes and a place are parameters, not a struct: they are the core under the reader, whose ghost field is the clause that they repeat.
 #![tactic(auto)]
 
-ghost use Rattle.std.specs.Prelude.{◌≡◌, not, ◌+◌, ◌-◌, ◌<◌, ◌≤◌, length, get_or, IfSome};
+ghost use Rattle.std.specs.Prelude.{◌≡◌, not, ◌+◌, ◌-◌, ◌<◌, ◌≤◌, eqb, length, get_or, IfSome};
 ghost use Rattle.words.specs.Word.{bit0};
+ghost use Rattle.words.specs.Kinds.{number, named};
 ghost use Rattle.records.specs.Forest.{end, take_f, any_f};
 ghost use Rattle.records.specs.Label.{is, read_at, ◌∶◌};
 ghost use Rattle.records.specs.Ends.{Ends};
@@ -20,9 +22,7 @@ mod reading;
 
 pub use reading::Reader;
 use records::Note;
-
-// No symbol: one more than the largest payload.
-pub const NONE: u32 = 67108864;
+use words::Kind;
 
 // ---- the word at a place
 
@@ -33,10 +33,19 @@ pub fn word_at(ws: &[u32], i: usize) -> u32
     ws.get(i).copied().unwrap_or(0)
 }
 
-pub fn kind_at(ws: &[u32], i: usize) -> u32
-    ensures { result ≡ (label_at ws.now i).kind }
+// Its kind.
+pub fn kind_at(ws: &[u32], i: usize) -> Option<Kind>
+    ensures named { result ≡ named (label_at ws.now i).kind }
+    ensures number { IfSome result (λ k. (label_at ws.now i).kind ≡ number k) }
 {
-    words::kind_of(word_at(ws, i))
+    Kind::of(word_at(ws, i))
+}
+
+// Is it of the kind?
+pub fn is_kind_at(ws: &[u32], i: usize, kind: Kind) -> bool
+    ensures { result ≡ eqb (label_at ws.now i).kind (number kind) }
+{
+    words::is_kind(word_at(ws, i), kind)
 }
 
 pub fn payload_at(ws: &[u32], i: usize) -> u32
@@ -71,19 +80,19 @@ pub fn children<'a>(ws: &'a [u32], notes: &'a [Note], at: usize) -> Reader<'a>
 }
 
 // The first record of a kind among the k records at `at`.
-pub fn find(ws: &[u32], notes: &[Note], at: usize, k: usize, kind: u32) -> usize
+fn find(ws: &[u32], notes: &[Note], at: usize, k: usize, kind: Kind) -> usize
     requires { Ends ws.now notes.now 0 }
-    ensures { Found ws.now kind at k result }
+    ensures { Found ws.now (number kind) at k result }
 {
     Reader::records(ws, notes, at, k)
-        .find(|&q| kind_at(ws, q) == kind)
+        .find(|&q| is_kind_at(ws, q, kind))
         .unwrap_or(ws.len())
 }
 
 // The first child of a kind of the record at `at`.
-pub fn child(ws: &[u32], notes: &[Note], at: usize, kind: u32) -> usize
+fn child(ws: &[u32], notes: &[Note], at: usize, kind: Kind) -> usize
     requires { Ends ws.now notes.now 0 }
-    ensures { Found ws.now kind (at + 1) (arity_at ws.now at) result }
+    ensures { Found ws.now (number kind) (at + 1) (arity_at ws.now at) result }
 {
     let r = children(ws, notes, at);
     find(ws, notes, r.at, r.left, kind)
@@ -94,7 +103,7 @@ pub fn parameters(ws: &[u32], notes: &[Note], at: usize) -> usize
     requires { Ends ws.now notes.now 0 }
     ensures { (kids_at ws.now result ≡ parameters_of (kids_at ws.now at)) × Found ws.now 36 (at + 1) (arity_at ws.now at) result }
 {
-    child(ws, notes, at, 36)
+    child(ws, notes, at, Kind::Parameters)
 }
 
 // The 29 of the class at `at`.
@@ -102,7 +111,7 @@ pub fn body(ws: &[u32], notes: &[Note], at: usize) -> usize
     requires { Ends ws.now notes.now 0 }
     ensures { (kids_at ws.now result ≡ elements_of (kids_at ws.now at)) × Found ws.now 29 (at + 1) (arity_at ws.now at) result }
 {
-    child(ws, notes, at, 29)
+    child(ws, notes, at, Kind::Body)
 }
 
 // The parameters of the method, constructor or function at `at`.
@@ -125,7 +134,7 @@ pub fn elements<'a>(ws: &'a [u32], notes: &'a [Note], at: usize) -> Reader<'a>
 pub fn decorators(ws: &[u32], at: usize) -> usize
     ensures { DecoratorsAt ws.now at result }
 {
-    if children_at(ws, at) == 0 || kind_at(ws, at + 1) != 28 {
+    if children_at(ws, at) == 0 || !is_kind_at(ws, at + 1, Kind::Decorators) {
         return ws.len();
     }
     at + 1
@@ -172,7 +181,7 @@ pub fn class_method_parameter_is_decorated(ws: &[u32], notes: &[Note], at: usize
 pub fn is_constructor(w: u32) -> bool
     ensures { result ≡ is_constructor (read_at 0 w) }
 {
-    words::kind_of(w) == 30 && words::payload_of(w) / 2 % 2 == 1
+    words::is_kind(w, Kind::Method) && words::payload_of(w) / 2 % 2 == 1
 }
 
 // Is the element at `at` a constructor?
@@ -188,20 +197,30 @@ fn member_decorated(ws: &[u32], notes: &[Note], at: usize) -> bool
     ensures { result ≡ is_decorated_member (label_at ws.now at) (kids_at ws.now at) }
 {
     match kind_at(ws, at) {
-        30 => {
+        Some(Kind::Method) => {
             !is_constructor_at(ws, at)
                 && (decorated(ws, at) || class_method_parameter_is_decorated(ws, notes, at))
         }
-        31 | 32 => decorated(ws, at),
+        Some(Kind::Property | Kind::AbstractAccessor) => decorated(ws, at),
         _ => false,
     }
 }
 
-// Rule 5: does a key of this kind give a name as it stands?
-pub fn is_plain_key(kind: u32) -> bool
-    ensures { result ≡ is_plain_key (kind ∶ 0) }
+// Rule 5: does a key with this word give a name as it stands?
+pub fn is_plain_key(w: u32) -> bool
+    ensures { result ≡ is_plain_key (read_at 0 w) }
 {
-    matches!(kind, 10 | 11 | 12 | 13 | 34 | 35)
+    matches!(
+        Kind::of(w),
+        Some(
+            Kind::String
+                | Kind::Number
+                | Kind::Template
+                | Kind::Null
+                | Kind::Name
+                | Kind::PrivateName
+        )
+    )
 }
 
 // Rule 5: does the key of the member at `at`?
@@ -209,7 +228,7 @@ pub fn plain_key(ws: &[u32], notes: &[Note], at: usize) -> bool
     requires { Ends ws.now notes.now 0 }
     ensures { result ≡ has_plain_key (kids_at ws.now at) }
 {
-    is_plain_key(words::kind_of(second_word(ws, notes, at)))
+    is_plain_key(second_word(ws, notes, at))
 }
 
 // ---- rows of elements: k of them, the first at `at`
@@ -235,8 +254,8 @@ fn is_static(ws: &[u32], at: usize) -> bool
     ensures { result ≡ is_static (label_at ws.now at) (kids_at ws.now at) }
 {
     match kind_at(ws, at) {
-        31 => payload_at(ws, at) % 2 == 1,
-        33 => true,
+        Some(Kind::Property) => payload_at(ws, at) % 2 == 1,
+        Some(Kind::StaticBlock) => true,
         _ => false,
     }
 }
@@ -287,7 +306,7 @@ pub fn class_id(ws: &[u32], notes: &[Note], at: usize) -> Option<u32>
     ensures { (result ≡ id_of (kids_at ws.now at)) × IfSome result (λ c. c < 67108864) }
 {
     let w = second_word(ws, notes, at);
-    if words::kind_of(w) != 27 {
+    if !words::is_kind(w, Kind::Id) {
         return None;
     }
     Some(words::payload_of(w))
@@ -326,6 +345,7 @@ pub fn class_decorated_first(ws: &[u32], notes: &[Note], at: usize) -> bool
     requires { Ends ws.now notes.now 0 }
     ensures { result ≡ is_decorated_class (kids_at ws.now at) }
 {
+    // Not one `||`: the second test has a reader of its own.
     if decorated(ws, at) {
         return true;
     }
@@ -336,15 +356,16 @@ pub fn class_decorated_first(ws: &[u32], notes: &[Note], at: usize) -> bool
 // ---- rule 9: a private-in test, a 19, anywhere inside a decorator
 
 // Is there a word of a kind in the k records at `at`?
-pub fn contains(ws: &[u32], notes: &[Note], at: usize, k: usize, kind: u32) -> bool
+fn contains(ws: &[u32], notes: &[Note], at: usize, k: usize, kind: Kind) -> bool
     requires { Ends ws.now notes.now 0 }
-    ensures { result ≡ any_f (is kind) (take_f k (records_at ws.now at)) }
+    ensures { result ≡ any_f (is (number kind)) (take_f k (records_at ws.now at)) }
 {
     let e = records::behind(ws, notes, at, k);
+    // Not `is_some_and`: a closure would stand in a closure.
     let Some(part) = ws.get(at..e) else {
         return false;
     };
-    part.iter().any(|&w| words::kind_of(w) == kind)
+    part.iter().any(|&w| words::is_kind(w, kind))
 }
 
 // In the decorators of the record at `at`?
@@ -353,7 +374,7 @@ fn private_in(ws: &[u32], notes: &[Note], at: usize) -> bool
     ensures { result ≡ any_f (is 19) (decorators (kids_at ws.now at)) }
 {
     let r = children(ws, notes, decorators(ws, at));
-    contains(ws, notes, r.at, r.left, 19)
+    contains(ws, notes, r.at, r.left, Kind::PrivateIn)
 }
 
 // In those of a parameter of the method or constructor at `at`?
@@ -370,11 +391,11 @@ fn private_in_element(ws: &[u32], notes: &[Note], at: usize) -> bool
     ensures { result ≡ private_in_element (label_at ws.now at) (kids_at ws.now at) }
 {
     match kind_at(ws, at) {
-        30 => {
+        Some(Kind::Method) => {
             !is_constructor_at(ws, at) && private_in(ws, notes, at)
                 || private_in_parameters(ws, notes, at)
         }
-        31 | 32 => private_in(ws, notes, at),
+        Some(Kind::Property | Kind::AbstractAccessor) => private_in(ws, notes, at),
         _ => false,
     }
 }

@@ -1,5 +1,6 @@
 // The notes' marks: which classes take an alias or are decorated (rule 6), which members are decorated (rule 3), whether there are private-in tests
 // (rule 9); a flat loop over the places of an accepted module's words, from the last to the first. And refusal 7, in the same loop.
+// Tests answer early, and not by one `||`, where the next one reads further words first.
 #![tactic(auto)]
 
 ghost use Rattle.std.specs.Prelude.{◌≡◌, true, ◌&&◌, ◌||◌, [], ◌∷◌, ◌+◌, ◌<◌, length};
@@ -17,9 +18,17 @@ ghost use Rattle.mark_table.specs.Marks.{takes_alias, is_marked, MarksFrom, Elem
 
 use inspect::Reader;
 use records::Note;
+use words::Kind;
 
 // The kinds that a mark or refusal 7 asks for: bit k for the kind k.
-const ASKED: u64 = 1 << 4 | 1 << 19 | 1 << 26 | 1 << 29 | 1 << 30 | 1 << 31 | 1 << 32 | 1 << 40;
+const ASKED: u64 = 1 << Kind::ClassStatement as u32
+    | 1 << Kind::PrivateIn as u32
+    | 1 << Kind::Class as u32
+    | 1 << Kind::Body as u32
+    | 1 << Kind::Method as u32
+    | 1 << Kind::Property as u32
+    | 1 << Kind::AbstractAccessor as u32
+    | 1 << Kind::Symbols as u32;
 
 // Notes of each place the mark of the record there; the ends as they were. Is any record one of refusal 7?
 pub fn find_marks(ws: &[u32], notes: &mut [Note]) -> bool
@@ -52,7 +61,7 @@ fn any_test(ws: &[u32], i: usize, test: bool) -> bool
     requires { NoTest ws.now (i + 1) test }
     ensures { NoTest ws.now i result }
 {
-    inspect::kind_at(ws, i) == 19 || test
+    inspect::is_kind_at(ws, i, Kind::PrivateIn) || test
 }
 
 // The mark of the record at i, where those of the places behind it are known; test: is there a private-in test?
@@ -61,12 +70,12 @@ fn is_marked(ws: &[u32], notes: &[Note], i: usize, test: bool) -> bool
     ensures { result ≡ (is_marked ws.now i || (is 40 (label_at ws.now i) && test)) }
 {
     match inspect::kind_at(ws, i) {
-        4 => takes_alias(ws, notes, i),
-        26 => class_has_decorated(ws, notes, i),
-        29 => any_marked(ws, notes, i + 1, inspect::children_at(ws, i)),
-        30 => method_has_decorated(ws, notes, i),
-        31 | 32 => inspect::payload_at(ws, i + 1) != 0,
-        40 => test,
+        Some(Kind::ClassStatement) => takes_alias(ws, notes, i),
+        Some(Kind::Class) => class_has_decorated(ws, notes, i),
+        Some(Kind::Body) => any_marked(ws, notes, i + 1, inspect::children_at(ws, i)),
+        Some(Kind::Method) => method_has_decorated(ws, notes, i),
+        Some(Kind::Property | Kind::AbstractAccessor) => inspect::payload_at(ws, i + 1) != 0,
+        Some(Kind::Symbols) => test,
         _ => false,
     }
 }
@@ -103,6 +112,7 @@ fn any_marked(ws: &[u32], notes: &[Note], at: usize, k: usize) -> bool
     requires { Ends ws.now notes.now 0 × ElementMarks ws.now notes.now at k }
     ensures { result ≡ any_row is_decorated_member (take_f k (records_at ws.now at)) }
 {
+    // Not `any`: its closure would have to know that each place is within the notes.
     for q in Reader::records(ws, notes, at, k) {
         if notes[q].marked {
             return true;
@@ -141,7 +151,7 @@ fn is_refused_7(ws: &[u32], notes: &[Note], i: usize) -> bool
     requires { (i < length ws.now) × Ends ws.now notes.now 0 × Fits (module' ∷ []) (records_at ws.now 0) × ClassMark ws.now notes.now (i + 1) }
     ensures { result ≡ is_refused7 (label_at ws.now i) (kids_at ws.now i) }
 {
-    if inspect::kind_at(ws, i) != 4 || !inspect::is_live(ws, i + 1) {
+    if !inspect::is_kind_at(ws, i, Kind::ClassStatement) || !inspect::is_live(ws, i + 1) {
         return false;
     }
     notes[i + 1].marked && !inspect::class_decorated_first(ws, notes, i + 1)

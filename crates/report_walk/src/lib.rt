@@ -1,4 +1,5 @@
 // The symbol report of some records: one word for each fresh symbol, in order of need. Reads the words, writes the report, reads nothing back from it.
+// The words, their notes and the output are parameters beside the walk, which is copied, as in `transform`.
 #![tactic(auto)]
 
 ghost use Rattle.std.specs.Prelude.{◌+◌, ◌<◌, ◌≡◌, [], ◌∷◌, true, length, get_or};
@@ -14,6 +15,7 @@ ghost use Rattle.report_walk.specs.Contract.{number, HasRole, key_fresh, class_f
 
 use records::Note;
 use rewriting::{Around, State};
+use words::Kind;
 
 // The sorts of fresh symbols, by their numbers in the report.
 #[derive(Clone, Copy)]
@@ -100,9 +102,9 @@ fn role_at(ws: &[u32], at: usize) -> Role
     ensures { HasRole result (label_at ws.now at).kind }
 {
     match inspect::kind_at(ws, at) {
-        4 => Role::Statement,
-        20 => Role::Expression,
-        30 | 31 | 32 => Role::Element,
+        Some(Kind::ClassStatement) => Role::Statement,
+        Some(Kind::ClassExpression) => Role::Expression,
+        Some(Kind::Method | Kind::Property | Kind::AbstractAccessor) => Role::Element,
         _ => Role::Other,
     }
 }

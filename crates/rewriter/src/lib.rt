@@ -23,6 +23,33 @@ pub struct Written {
     pub fresh: u32,
 }
 
+// The three numbers that a call returns to C, a case or the program: 0 or the refusal's number, then the two of `Written`, 0 where the module is refused.
+#[derive(Clone, Copy, Debug, PartialEq, Eq)]
+pub struct Numbers {
+    pub code: u32,
+    pub written: usize,
+    pub fresh: u32,
+}
+
+impl From<Result<Written, Refusal>> for Numbers {
+    ghost from_gives = { λ r n. (n.code ≡ (numbers_of r).code) × (n.written ≡ (numbers_of r).written) × (n.fresh ≡ (numbers_of r).fresh) };
+
+    fn from(answer: Result<Written, Refusal>) -> Numbers {
+        match answer {
+            Ok(Written { words, fresh }) => Numbers {
+                code: 0,
+                written: words,
+                fresh,
+            },
+            Err(refusal) => Numbers {
+                code: u32::from(refusal),
+                written: 0,
+                fresh: 0,
+            },
+        }
+    }
+}
+
 // What a call is for: the rewriting or the symbol report. Its answer for a module is that for `words`, which it may write in any order that counts as the
 // `Same`.
 pub trait Job {

@@ -52,7 +52,8 @@ impl Job for Reporting {
     ghost fits = { report_fits };
 }
 
-// Whether `room` words are enough for the module's report. A third of its words always are (`report_length`); else they are counted.
+// Whether `room` words are enough for the module's report. A third of its words always are (`report_length`); else they are counted. Not one function with
+// the rewriter's: another bound and another walk, so that only the comparisons are alike.
 fn has_room(ws: &[u32], notes: &[Note], room: usize) -> bool
     requires { (refusal ws.now ≡ 0) × Planned ws.now notes.now }
     ensures { result ≡ leb (length (report_words ws.now)) room }

@@ -1,26 +1,24 @@
 -- The words and numbers of the functions that no walker stands below, case by case. Assumes nothing.
-use Rattle.std.specs.Prelude.{◌≡◌, Bool, ◌&&◌, not, eqb, ltb}
+use Rattle.std.specs.Prelude.{◌≡◌, Bool, ◌&&◌, not, eqb}
 use Rattle.std.proofs.Math.Path.{refl, ap, sym}
-use Rattle.std.proofs.Common.{◌∙◌, subst, true≢false, eq-eqb, ne_eqb, ltb-true, ltb-false}
+use Rattle.std.proofs.Common.{◌∙◌, subst, eq-eqb, ne_eqb}
 use Rattle.std.proofs.Math.Bool.{true, false, cond}
 use Rattle.std.specs.Option.{option_or}
 use Rattle.std.proofs.lemmas.Option.{none-some, same_Some}
 use Rattle.std.specs.declared.option.Option.{Option}
 use Rattle.std.specs.declared.option.Option.TheVariants.{None as none, Some as some}
 use mathlib.Core.List.{List, [], ◌∷◌}
-use Prim.Native.Nat.{ℕ, zero, suc, ◌+◌, ◌%◌, ◌<◌, ◌≤◌}
+use Prim.Native.Nat.{ℕ, zero, suc, ◌+◌, ◌%◌, ◌≤◌}
 use native.Mathlib.Omega.{arith}
 use Rattle.std.proofs.Math.ListN.{length}
 use Rattle.words.specs.Word.{bit0}
-use Rattle.records.specs.Label.{Label, is, ◌∶◌}
-use Rattle.records.specs.Place.{label_at, arity_at, kids_at, end_of}
+use Rattle.records.specs.Label.{is}
+use Rattle.records.specs.Place.{label_at, kids_at, end_of}
 use Rattle.output.specs.Overlay.{Wrote}
-use Rattle.rewriting.specs.Parts.{is_decorated_member, is_plain_key, has_plain_key}
+use Rattle.rewriting.specs.Parts.{is_decorated_member, has_plain_key}
 use Rattle.rewriting.specs.declared.Around.{Around}
 use Rattle.class_stack.specs.Renaming.{Sub, subs}
 use Rattle.class_stack.specs.declared.ClassStack.{ClassStack}
-use Rattle.inspect.specs.Child.{kind_past, second_none, second_here}
-use Rattle.inspect.specs.Class.{key_second, plain_kind}
 use Rattle.walk_laws.specs.Written.{word_by}
 use Rattle.walk_laws.specs.Calls.{symbol_of, prefix_words, name_word}
 use Rattle.walk_laws.specs.ClassPlan.{under, optional, export_words}
@@ -61,41 +59,10 @@ module _ (word : ℕ → ℕ → ℕ) (f c : ℕ) where
   prefix_length true = omega arith
   prefix_length false = omega arith
 
-pub descriptor_lt : (b : Bool) → cond b 14 13 < 64
-descriptor_lt true = omega arith
-descriptor_lt false = omega arith
-
-plain_big : (l : Label) → 64 ≤ l.kind → is_plain_key l ≡ false
-unfolding is_plain_key is
-plain_big l h =
-    let no : (n : ℕ) → n < 64 → eqb l.kind n ≡ false = λ n g. ne_eqb l.kind n (omega arith) in
-    rw (no 34 (omega arith), no 35 (omega arith), no 10 (omega arith), no 11 (omega arith), no 12 (omega arith), no 13 (omega arith))
-
-plain_lt : (l : Label) → is_plain_key l ≡ true → l.kind < 64
-plain_lt l e = go (ltb l.kind 64) refl
-  where
-    go : (b : Bool) → ltb l.kind 64 ≡ b → l.kind < 64
-    go true t = ltb-true l.kind 64 t
-    go false t = absurd (true≢false (sym e ∙ plain_big l (ltb-false l.kind 64 t)))
-
 -- the name of the member at `at`, by its key at q
 module _ (word : ℕ → ℕ → ℕ) (ws : List ℕ) (at q : ℕ) (e : q ≡ end_of ws (at + 1) 1) where
   key_kind : (k : ℕ) → k ≡ (label_at ws q).kind → (label_at ws (end_of ws (at + 1) 1)).kind ≡ k
   key_kind k h = ap (λ (i : ℕ). (label_at ws i).kind) (sym e) ∙ sym h
-
-  -- a key that gives a name as it stands
-  pub key_lt : (k : ℕ) → k ≡ (label_at ws q).kind → has_plain_key (kids_at ws at) ≡ true → k < 64
-  key_lt k h p = subst (λ (n : ℕ). n < 64) (key_kind k h) (plain_lt (label_at ws (end_of ws (at + 1) 1)) (go (ltb 1 (arity_at ws at)) refl))
-    where
-      none_plain : is_plain_key (0 ∶ 0) ≡ false
-      none_plain = unfold is_plain_key is ◌∶◌ in refl
-
-      go : (b : Bool) → ltb 1 (arity_at ws at) ≡ b → is_plain_key (label_at ws (end_of ws (at + 1) 1)) ≡ true
-      go true t = key_second ws at (end_of ws (at + 1) 1) (second_here ws at (ltb-true 1 (arity_at ws at) t)) ∙ p
-      go false t =
-          let f : is_plain_key (label_at ws (length ws)) ≡ false =
-          plain_kind (label_at ws (length ws)) ∙ ap (λ (n : ℕ). is_plain_key (n ∶ 0)) (kind_past ws (length ws) (omega arith)) ∙ none_plain in
-          absurd (true≢false (sym p ∙ sym (key_second ws at (length ws) (second_none ws at (ltb-false 1 (arity_at ws at) t))) ∙ f))
 
   module _ (k : ℕ) (h : k ≡ (label_at ws q).kind) (n : ℕ) where
     name_by : (x y z : Bool) → eqb k 34 ≡ x → eqb k 35 ≡ y → has_plain_key (kids_at ws at) ≡ z →

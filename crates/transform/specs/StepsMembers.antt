@@ -181,16 +181,6 @@ module _ (ws : List ℕ) (at : ℕ) (a : Around) (s : State) (c : ClassStack) (w
 
 -- ---- elements by kind
 
-pub element_small : (k : ℕ) → is_element_kind k ≡ true → k < 64
-unfolding is_element_kind
-element_small k e = go (eqb k 30) refl (eqb k 31) refl (eqb k 32) refl e
-  where
-    go : (x : Bool) → eqb k 30 ≡ x → (y : Bool) → eqb k 31 ≡ y → (z : Bool) → eqb k 32 ≡ z → (x || y || z) ≡ true → k < 64
-    go true ex y ey z ez t = omega (arith, eqb-true k 30 ex)
-    go false ex true ey z ez t = omega (arith, eqb-true k 31 ey)
-    go false ex false ey true ez t = omega (arith, eqb-true k 32 ez)
-    go false ex false ey false ez t = absurd (false≢true t)
-
 or_rest : (x b y z : Bool) → x ≡ false → (x || y || z) ≡ true → ((x && not b) || y || z) ≡ true
 or_rest true b y z n e = absurd (false≢true (sym n))
 or_rest false b y z n e = e

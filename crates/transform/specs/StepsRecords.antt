@@ -10,9 +10,8 @@ use mathlib.Core.List.{List, [], ◌∷◌, ◌++◌}
 use Prim.Native.Nat.{ℕ, suc, ◌+◌, ◌-◌, ◌*◌, ◌<◌, ◌≤◌}
 use native.Mathlib.Omega.{arith}
 use Rattle.words.specs.Table.{lookup}
-use Rattle.words.specs.Word.{children, child_table}
+use Rattle.words.specs.Word.{kind_of, payload_of, children, child_table}
 use Rattle.records.specs.Forest.{end, node, flat, take_f, append_f, count_f, size, size_node, size_append}
-use Rattle.words.specs.Word.{kind_lt}
 use Rattle.records.specs.Label.{Label, Trees, read_at, repay, arity}
 use Rattle.records.specs.Place.{records_at, label_at, arity_at, kids_at, end_of, end_one, end_none, end_high}
 use Rattle.output.specs.Overlay.{Wrote, wrote_then, wrote_front}
@@ -388,9 +387,14 @@ module _ (ws : List ℕ) (at : ℕ) (a : Around) (s : State) (c : ClassStack) (h
 
 -- ---- numbers
 
-pub kind_small : (ws : List ℕ) (at k : ℕ) → k ≡ (label_at ws at).kind → get_or ws at 0 < 4294967296 → k < 64
+-- the kind and the payload of the word at a place
+pub word_kind : (ws : List ℕ) (at : ℕ) {w : ℕ} → w ≡ get_or ws at 0 → kind_of w ≡ (label_at ws at).kind
 unfolding label_at read_at
-kind_small ws at k e h = omega (arith, e, kind_lt (get_or ws at 0) h)
+word_kind ws at e = ap kind_of e
+
+pub word_payload : (ws : List ℕ) (at : ℕ) {w : ℕ} → w ≡ get_or ws at 0 → payload_of w ≡ (label_at ws at).payload
+unfolding label_at read_at
+word_payload ws at e = ap payload_of e
 
 -- ---- the loop over records
 

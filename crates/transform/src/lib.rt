@@ -1,11 +1,14 @@
 // Writes what the records of a module become (rules 1 to 10). Reads the words, writes the output, reads nothing back from it.
+// The words, their notes and the output are parameters beside the walk, not fields of it: a walk is copied at each level, and calls go on from an older one,
+// which a walk with a lent output couldn't be. So a walk that takes its place from one and its words from another names the fields.
 #![tactic(auto)]
 
 ghost use Rattle.std.specs.Prelude.{◌≡◌, true, false, not, cond, [], ◌∷◌, ℕ, ◌+◌, ◌-◌, ◌<◌, ◌≤◌, eqb, length, get_or, replicate, IsSome, IsSomeAnd};
 ghost use Rattle.std.specs.Int.{from_bool};
 ghost use Rattle.std.specs.Option.{option_or};
 ghost use Rattle.std.specs.declared.option.Option.TheVariants.{None, Some};
-ghost use Rattle.words.specs.Word.{bit0};
+ghost use Rattle.words.specs.Word.{kind_of, payload_of, bit0};
+ghost use Rattle.words.specs.Kinds.{number};
 ghost use Rattle.records.specs.Forest.{take_f, count_f, size};
 ghost use Rattle.records.specs.Ends.{Ends, blank};
 ghost use Rattle.records.specs.Place.{records_at, label_at, arity_at, kids_at, end_of};
@@ -33,6 +36,7 @@ use class_stack::ClassStack;
 use counter::Counted;
 use records::Note;
 use rewriting::{Around, State};
+use words::Kind;
 
 // A walk: where it stands in the words read and in the words written, the state there, and how many records were written.
 #[derive(Clone, Copy)]
@@ -44,27 +48,49 @@ pub struct Walk {
 }
 
 // The kinds whose words change, but for members: bit k for the kind k.
-const CHANGING: u64 = 1 << 1 | 1 << 3 | 1 << 4 | 1 << 20 | 1 << 33 | 1 << 39;
+const CHANGING: u64 = 1 << Kind::Module as u32
+    | 1 << Kind::Block as u32
+    | 1 << Kind::ClassStatement as u32
+    | 1 << Kind::ClassExpression as u32
+    | 1 << Kind::StaticBlock as u32
+    | 1 << Kind::Code as u32;
 
 // ---- words
 
 // One word, under the classes around.
-pub fn put(c: ClassStack, k: u32, p: u32, out: &mut [u32], pos: usize) -> usize
-    requires { StackReady c × (pos < 4294967296) × (k < 64) × (p < 67108864) }
-    ensures { Wrote out.old pos (word_below c k p ∷ []) out.new result }
+fn put(c: ClassStack, kind: Kind, p: u32, out: &mut [u32], pos: usize) -> usize
+    requires { StackReady c × (pos < 4294967296) × (p < 67108864) }
+    ensures { Wrote out.old pos (word_below c (number kind) p ∷ []) out.new result }
 {
-    output::put(out, pos, class_stack::word(c, k, p))
+    output::put(out, pos, class_stack::word(c, u32::from(kind), p))
 }
 
-// A word of kind k with the symbol p, if there is one.
-fn put_optional(c: ClassStack, k: u32, p: Option<u32>, out: &mut [u32], pos: usize) -> usize
-    requires { StackReady c × (pos < 4294967296) × (k < 64) × Small p }
-    ensures { Wrote out.old pos (optional (word_below c) k p) out.new result }
+// A word with the symbol p, if there is one.
+fn put_optional(c: ClassStack, kind: Kind, p: Option<u32>, out: &mut [u32], pos: usize) -> usize
+    requires { StackReady c × (pos < 4294967296) × Small p }
+    ensures { Wrote out.old pos (optional (word_below c) (number kind) p) out.new result }
 {
     match p {
-        Some(p) => put(c, k, p, out, pos),
+        Some(p) => put(c, kind, p, out, pos),
         None => pos,
     }
+}
+
+// The word w with the payload p, under the classes around.
+fn put_as(c: ClassStack, w: u32, p: u32, out: &mut [u32], pos: usize) -> usize
+    requires { StackReady c × (pos < 4294967296) × (p < 67108864) }
+    ensures { Wrote out.old pos (word_below c (kind_of w) p ∷ []) out.new result }
+{
+    output::put(out, pos, class_stack::word(c, words::kind_of(w), p))
+}
+
+// The word w, under the classes around.
+#[tactic(auto, using(words::specs::Word::payload_lt))]
+fn copy_word(c: ClassStack, w: u32, out: &mut [u32], pos: usize) -> usize
+    requires { StackReady c × (pos < 4294967296) }
+    ensures { Wrote out.old pos (word_below c (kind_of w) (payload_of w) ∷ []) out.new result }
+{
+    put_as(c, w, words::payload_of(w), out, pos)
 }
 
 // ---- records
@@ -89,8 +115,8 @@ pub fn program(ws: &[u32], notes: &[Note], next: u32, c: ClassStack, out: &mut [
         id: None,
     };
     let r = records(ws, notes, inspect::payload_at(ws, 0) as usize, a, w, c, out);
-    put(c, 40, r.state.next, out, 1);
-    put(c, 1, r.count, out, 0);
+    put(c, Kind::Symbols, r.state.next, out, 1);
+    put(c, Kind::Module, r.count, out, 0);
     Walk { count: 1, ..r }
 }
 
@@ -163,10 +189,14 @@ fn sort_at(ws: &[u32], notes: &[Note], at: usize) -> Sort
     ensures { SortAt ws.now at result }
 {
     match inspect::kind_at(ws, at) {
-        3 | 33 | 39 => Sort::List,
-        4 if inspect::is_live(ws, at + 1) && !is_plain(ws, notes, at) => Sort::Live,
-        4 | 20 => Sort::Class,
-        30 | 31 | 32 if notes[at].marked => Sort::Member,
+        Some(Kind::Block | Kind::StaticBlock | Kind::Code) => Sort::List,
+        Some(Kind::ClassStatement) if inspect::is_live(ws, at + 1) && !is_plain(ws, notes, at) => {
+            Sort::Live
+        }
+        Some(Kind::ClassStatement | Kind::ClassExpression) => Sort::Class,
+        Some(Kind::Method | Kind::Property | Kind::AbstractAccessor) if notes[at].marked => {
+            Sort::Member
+        }
         _ => Sort::Kept,
     }
 }
@@ -178,13 +208,7 @@ fn copied(ws: &[u32], at: usize, e: usize, c: ClassStack, out: &mut [u32], pos: 
 {
     let mut p = pos;
     for i in at..e {
-        p = put(
-            c,
-            inspect::kind_at(ws, i),
-            inspect::payload_at(ws, i),
-            out,
-            p,
-        );
+        p = copy_word(c, inspect::word_at(ws, i), out, p);
     }
     p
 }
@@ -198,14 +222,9 @@ fn kept(ws: &[u32], notes: &[Note], a: Around, w: Walk, c: ClassStack, out: &mut
 {
     let mut k = inspect::children_at(ws, w.at);
     let mut v = w;
-    v.pos = put(
-        c,
-        inspect::kind_at(ws, w.at),
-        inspect::payload_at(ws, w.at),
-        out,
-        w.pos,
-    );
+    v.pos = copy_word(c, inspect::word_at(ws, w.at), out, w.pos);
     v.at += 1;
+    // Not a `for`: a record that stays adds those in it to the ones that are left.
     while k != 0 {
         let at = v.at;
         if ws.len() <= at {
@@ -223,13 +242,7 @@ fn kept(ws: &[u32], notes: &[Note], a: Around, w: Walk, c: ClassStack, out: &mut
             continue;
         }
         if is_kept(ws, notes, at) {
-            v.pos = put(
-                c,
-                inspect::kind_at(ws, at),
-                inspect::payload_at(ws, at),
-                out,
-                v.pos,
-            );
+            v.pos = copy_word(c, inspect::word_at(ws, at), out, v.pos);
             k = k - 1 + inspect::children_at(ws, at);
             v.at += 1;
             continue;
@@ -264,7 +277,7 @@ fn list(ws: &[u32], notes: &[Note], a: Around, w: Walk, c: ClassStack, out: &mut
         ..w
     };
     let r = records(ws, notes, inspect::children_at(ws, w.at), a, v, c, out);
-    put(c, inspect::kind_at(ws, w.at), r.count, out, w.pos);
+    put_as(c, inspect::word_at(ws, w.at), r.count, out, w.pos);
     Walk {
         count: w.count + 1,
         ..r
@@ -277,13 +290,7 @@ fn class(ws: &[u32], notes: &[Note], a: Around, w: Walk, c: ClassStack, out: &mu
     requires { Asks ws.now notes.now w.at 1 w.state.next c w.pos (size (here_at ws.now w.at 1 a w.state)) × (w.count ≤ w.pos) × (w.at < length ws.now) × StaysAt ws.now w.at }
     ensures { Emitted ws.now w.at 1 a w.state c out.old w.pos w.count out.new result }
 {
-    let pos = put(
-        c,
-        inspect::kind_at(ws, w.at),
-        inspect::payload_at(ws, w.at),
-        out,
-        w.pos,
-    );
+    let pos = copy_word(c, inspect::word_at(ws, w.at), out, w.pos);
     let v = Walk {
         at: w.at + 1,
         pos,
@@ -309,7 +316,7 @@ fn scope_below(ws: &[u32], notes: &[Note], at: usize) -> Around
     requires { Ends ws.now notes.now 0 × (at < length ws.now) × (at < 4294967296) }
     ensures { ScopeBelow ws.now at result }
 {
-    if inspect::kind_at(ws, at) == 20 {
+    if inspect::is_kind_at(ws, at, Kind::ClassExpression) {
         return Around {
             live: false,
             id: None,
@@ -342,10 +349,9 @@ fn member(ws: &[u32], notes: &[Note], a: Around, w: Walk, c: ClassStack, out: &m
     ensures { Moved (member_words ws.now w.at a w.state c) (end_of ws.now w.at 1) (after_at ws.now w.at 1 a w.state) out.old w.pos out.new result × (result.count ≡ w.count + 1) }
 {
     let n = inspect::children_at(ws, w.at);
-    let kind = inspect::kind_at(ws, w.at);
     let whole = counter::count_record(ws, notes, w.at, a, w.state);
-    let p1 = put(c, kind, inspect::payload_at(ws, w.at), out, w.pos);
-    let p2 = put(c, 28, 0, out, p1);
+    let p1 = copy_word(c, inspect::word_at(ws, w.at), out, w.pos);
+    let p2 = put(c, Kind::Decorators, 0, out, p1);
     let p3 = key_assignment(ws, notes, w.at, a, whole.state.next, c, out, p2);
     let d = counter::count_record(ws, notes, w.at + 1, a, w.state);
     let v = Walk {
@@ -354,7 +360,7 @@ fn member(ws: &[u32], notes: &[Note], a: Around, w: Walk, c: ClassStack, out: &m
         state: d.state,
         count: 0,
     };
-    if kind != 30 {
+    if !inspect::is_kind_at(ws, w.at, Kind::Method) {
         let r = records(ws, notes, n - 1, a, v, c, out);
         return Walk {
             at: whole.at,
@@ -392,7 +398,7 @@ fn key_assignment(
     if !a.live || !notes[at].marked || inspect::plain_key(ws, notes, at) {
         return pos;
     }
-    put(c, 18, next - 1, out, pos)
+    put(c, Kind::Assignment, next - 1, out, pos)
 }
 
 // A 36 whose parameters lose their decorators.
@@ -410,13 +416,25 @@ fn parameters(
 {
     let k = inspect::children_at(ws, w.at);
     let mut v = w;
-    v.pos = put(c, 36, inspect::payload_at(ws, w.at), out, w.pos);
+    v.pos = put(
+        c,
+        Kind::Parameters,
+        inspect::payload_at(ws, w.at),
+        out,
+        w.pos,
+    );
     v.at += 1;
     for _ in 0..k {
         let n = inspect::children_at(ws, v.at);
         let d = counter::count_record(ws, notes, v.at + 1, a, v.state);
-        let p1 = put(c, 37, inspect::payload_at(ws, v.at), out, v.pos);
-        let p2 = put(c, 28, 0, out, p1);
+        let p1 = put(
+            c,
+            Kind::Parameter,
+            inspect::payload_at(ws, v.at),
+            out,
+            v.pos,
+        );
+        let p2 = put(c, Kind::Decorators, 0, out, p1);
         let u = Walk {
             at: d.at,
             pos: p2,
@@ -456,15 +474,15 @@ fn calls(
             };
             continue;
         }
-        let p1 = put(c, 2, 0, out, v.pos);
-        let p2 = put(c, 22, 4, out, p1);
+        let p1 = put(c, Kind::ExpressionStatement, 0, out, v.pos);
+        let p2 = put(c, Kind::DecorateCall, 4, out, p1);
         let u = Walk {
             pos: p2 + 1,
             count: 0,
             ..v
         };
         let e = entries(ws, notes, a, u, c, out);
-        put(c, 16, e.count, out, p2);
+        put(c, Kind::Array, e.count, out, p2);
         v = Walk {
             at: r.at,
             pos: arguments(ws, notes, at, a, r.state, c, out, e.pos),
@@ -497,14 +515,18 @@ fn arguments(
         pos,
     );
     let p2 = get_name_of_property_key(ws, notes, at, s.next, c, out, p1);
-    put(c, descriptor(inspect::kind_at(ws, at)), 0, out, p2)
+    put(c, descriptor(inspect::word_at(ws, at)), 0, out, p2)
 }
 
 // Rule 3: "Descriptor is 14 for a property, 13 for a method or accessor".
-fn descriptor(kind: u32) -> u32
-    ensures { result ≡ cond (eqb kind 31) 14 13 }
+fn descriptor(w: u32) -> Kind
+    ensures { number result ≡ cond (eqb (kind_of w) 31) 14 13 }
 {
-    if kind == 31 { 14 } else { 13 }
+    if words::is_kind(w, Kind::Property) {
+        Kind::VoidZero
+    } else {
+        Kind::Null
+    }
 }
 
 // Rule 3: the class's symbol, or its prototype.
@@ -519,7 +541,7 @@ fn get_class_member_prefix(
     ensures { Wrote out.old pos (prefix_words (word_below c) (eqb (bit0 flags) 1) symbol) out.new result }
 {
     if flags % 2 == 1 {
-        return put(c, 9, symbol, out, pos);
+        return put(c, Kind::Identifier, symbol, out, pos);
     }
     create_prototype_member(symbol, c, out, pos)
 }
@@ -528,8 +550,8 @@ fn create_prototype_member(symbol: u32, c: ClassStack, out: &mut [u32], pos: usi
     requires { StackReady c × (pos + 2 < 4294967296) × (symbol < 67108864) }
     ensures { Wrote out.old pos (word_below c 24 0 ∷ word_below c 9 symbol ∷ []) out.new result }
 {
-    let p = put(c, 24, 0, out, pos);
-    put(c, 9, symbol, out, p)
+    let p = put(c, Kind::PrototypeOf, 0, out, pos);
+    put(c, Kind::Identifier, symbol, out, p)
 }
 
 // Rule 5: the name of the member at `at`; next is the counter behind the member.
@@ -546,17 +568,17 @@ fn get_name_of_property_key(
     ensures { Wrote out.old pos (name_word (word_below c) (label_at ws.now (end_of ws.now (at + 1) 1)) (has_plain_key (kids_at ws.now at)) (next - 1) ∷ []) out.new result }
 {
     let q = records::behind(ws, notes, at + 1, 1);
-    let k = inspect::kind_at(ws, q);
-    if k == 34 {
-        return put(c, 10, inspect::payload_at(ws, q), out, pos);
+    let w = inspect::word_at(ws, q);
+    if words::is_kind(w, Kind::Name) {
+        return put(c, Kind::String, words::payload_of(w), out, pos);
     }
-    if k == 35 {
-        return put(c, 10, 0, out, pos);
+    if words::is_kind(w, Kind::PrivateName) {
+        return put(c, Kind::String, 0, out, pos);
     }
     if inspect::plain_key(ws, notes, at) {
-        return put(c, k, inspect::payload_at(ws, q), out, pos);
+        return copy_word(c, w, out, pos);
     }
-    put(c, 9, next - 1, out, pos)
+    put(c, Kind::Identifier, next - 1, out, pos)
 }
 
 // The decorators of the member where the walk stands, then its parameters': the entries of its array.
@@ -567,7 +589,7 @@ fn entries(ws: &[u32], notes: &[Note], a: Around, w: Walk, c: ClassStack, out: &
 {
     let v = Walk { at: w.at + 2, ..w };
     let own = records(ws, notes, inspect::children_at(ws, w.at + 1), a, v, c, out);
-    if inspect::kind_at(ws, w.at) != 30 {
+    if !inspect::is_kind_at(ws, w.at, Kind::Method) {
         return own;
     }
     let key = counter::count_records(ws, notes, w.at + 1, 2, a, w.state);
@@ -620,7 +642,7 @@ fn indexed(
     let mut v = w;
     v.at += 2;
     for _ in 0..k {
-        v.pos = put(c, 23, j, out, v.pos);
+        v.pos = put(c, Kind::ParameterCall, j, out, v.pos);
         v = records(ws, notes, 1, a, v, c, out);
     }
     Walk {
@@ -781,7 +803,7 @@ fn class_head(p: u32, g: ClassPlan, c: ClassStack, out: &mut [u32], pos: usize) 
 {
     match g.outer {
         Some(outer) if !g.private => let_head(outer, g, c, out, pos),
-        _ => put(c, 4, p, out, pos),
+        _ => put(c, Kind::ClassStatement, p, out, pos),
     }
 }
 
@@ -790,12 +812,12 @@ fn let_head(outer: u32, g: ClassPlan, c: ClassStack, out: &mut [u32], pos: usize
     requires { StackReady c × (pos + 3 < 4294967296) × Small g.alias × (outer < 67108864) }
     ensures { Wrote out.old pos (let_words g c outer) out.new result }
 {
-    let p1 = put(c, 5, outer, out, pos);
+    let p1 = put(c, Kind::Let, outer, out, pos);
     if g.fixed {
-        return put(c, 20, 0, out, p1);
+        return put(c, Kind::ClassExpression, 0, out, p1);
     }
-    let p2 = put_optional(c, 18, g.alias, out, p1);
-    put(c, 20, 0, out, p2)
+    let p2 = put_optional(c, Kind::Assignment, g.alias, out, p1);
+    put(c, Kind::ClassExpression, 0, out, p2)
 }
 
 // The class of the statement at `at` as it stays; n is the counter in front of it.
@@ -845,9 +867,9 @@ fn class_words(g: ClassPlan, p: u32, c: ClassStack, out: &mut [u32], pos: usize)
     requires { StackReady c × (pos + 3 < 4294967296) × (p + 1 < 67108864) × Small g.inner }
     ensures { Wrote out.old pos (name_words g c p) out.new result }
 {
-    let p1 = put(c, 26, class_flags(g, p), out, pos);
-    let p2 = put(c, 28, 0, out, p1);
-    put_optional(c, 27, g.inner, out, p2)
+    let p1 = put(c, Kind::Class, class_flags(g, p), out, pos);
+    let p2 = put(c, Kind::Decorators, 0, out, p1);
+    put_optional(c, Kind::Id, g.inner, out, p2)
 }
 
 // Rule 10: a nameless class that is to have an id has one flag more.
@@ -874,14 +896,14 @@ fn class_body(
     let k = inspect::children_at(ws, w.at);
     let block = has_block(g);
     let n = k as u32 + u32::from(has_front(g)) + u32::from(block);
-    let p1 = put(c, 29, n, out, w.pos);
+    let p1 = put(c, Kind::Body, n, out, w.pos);
     let p2 = alias_block(g, c, out, p1);
     let inner = body_stack(g, c);
     let p3 = elements(ws, notes, g, Walk { pos: p2, ..w }, inner, out);
     if !block {
         return p3;
     }
-    let p4 = put(c, 33, g.calls, out, p3);
+    let p4 = put(c, Kind::StaticBlock, g.calls, out, p3);
     let a = Around {
         live: true,
         id: g.id,
@@ -927,10 +949,10 @@ fn alias_block(g: ClassPlan, c: ClassStack, out: &mut [u32], pos: usize) -> usiz
 {
     match g.alias {
         Some(alias) if g.fixed => {
-            let p1 = put(c, 33, 1, out, pos);
-            let p2 = put(c, 2, 0, out, p1);
-            let p3 = put(c, 18, alias, out, p2);
-            put(c, 15, 0, out, p3)
+            let p1 = put(c, Kind::StaticBlock, 1, out, pos);
+            let p2 = put(c, Kind::ExpressionStatement, 0, out, p1);
+            let p3 = put(c, Kind::Assignment, alias, out, p2);
+            put(c, Kind::This, 0, out, p3)
         }
         _ => pos,
     }
@@ -1038,8 +1060,8 @@ fn create_export(x: u32, symbol: u32, c: ClassStack, out: &mut [u32], pos: usize
 {
     match x {
         0 => pos,
-        1 => put(c, 6, symbol, out, pos),
-        _ => put(c, 7, symbol, out, pos),
+        1 => put(c, Kind::Export, symbol, out, pos),
+        _ => put(c, Kind::DefaultExport, symbol, out, pos),
     }
 }
 
@@ -1082,8 +1104,8 @@ fn create_assignment(
     };
     let inner = body_stack(g, c);
     let e = first_entries(ws, notes, g, f, inner, out);
-    put(c, 16, e.count, out, p1);
-    put(c, 9, outer, out, e.pos)
+    put(c, Kind::Array, e.count, out, p1);
+    put(c, Kind::Identifier, outer, out, e.pos)
 }
 
 // Rule 7: "2, 18:C, (18:alias,) 22:2".
@@ -1097,10 +1119,10 @@ fn assignment_head(
     requires { StackReady c × (pos + 4 < 4294967296) × (outer < 67108864) × Small alias }
     ensures { Wrote out.old pos (assign_words c outer alias) out.new result }
 {
-    let p1 = put(c, 2, 0, out, pos);
-    let p2 = put(c, 18, outer, out, p1);
-    let p3 = put_optional(c, 18, alias, out, p2);
-    put(c, 22, 2, out, p3)
+    let p1 = put(c, Kind::ExpressionStatement, 0, out, pos);
+    let p2 = put(c, Kind::Assignment, outer, out, p1);
+    let p3 = put_optional(c, Kind::Assignment, alias, out, p2);
+    put(c, Kind::DecorateCall, 2, out, p3)
 }
 
 // The decorators of the first constructor's parameters in the body where the walk stands.

@@ -14,18 +14,19 @@ ghost use Rattle.validation.specs.Waiting.{waiting};
 
 use grammar::{Refusal, Slot};
 use std::marker::Model;
+use words::Kind;
 
 // A run of places that wait for records: so many of one slot. `left` is the number of levels that are left, the places' own counted: it falls from a record
-// to its children. It is a byte, so that a run is eight and a stack is cleared sooner (speed).
+// to its children.
 #[derive(Clone, Copy)]
 pub struct Run {
     pub slot: Slot,
-    pub left: u8,
+    pub left: u32,
     pub count: u32,
 }
 
 impl Run {
-    fn new(slot: Slot, left: u8, count: u32) -> Run
+    fn new(slot: Slot, left: u32, count: u32) -> Run
         ensures { result ≡ record { slot = slot; left = left; count = count } }
     {
         Run { slot, left, count }
@@ -109,34 +110,34 @@ impl<const N: usize> Stack<N> {
 }
 
 // Sets of kinds, bit k for the kind k: those without children, and those whose children are expressions only.
-const LEAVES: u64 = 1 << 6
-    | 1 << 7
-    | 1 << 8
-    | 1 << 9
-    | 1 << 10
-    | 1 << 11
-    | 1 << 12
-    | 1 << 13
-    | 1 << 14
-    | 1 << 15
-    | 1 << 27
-    | 1 << 34
-    | 1 << 35
-    | 1 << 40;
+const LEAVES: u64 = 1 << Kind::Export as u32
+    | 1 << Kind::DefaultExport as u32
+    | 1 << Kind::Atom as u32
+    | 1 << Kind::Identifier as u32
+    | 1 << Kind::String as u32
+    | 1 << Kind::Number as u32
+    | 1 << Kind::Template as u32
+    | 1 << Kind::Null as u32
+    | 1 << Kind::VoidZero as u32
+    | 1 << Kind::This as u32
+    | 1 << Kind::Id as u32
+    | 1 << Kind::Name as u32
+    | 1 << Kind::PrivateName as u32
+    | 1 << Kind::Symbols as u32;
 
-const PLAIN_KINDS: u64 = 1 << 2
-    | 1 << 5
-    | 1 << 16
-    | 1 << 17
-    | 1 << 18
-    | 1 << 19
-    | 1 << 22
-    | 1 << 23
-    | 1 << 24
-    | 1 << 25
-    | 1 << 28;
+const PLAIN_KINDS: u64 = 1 << Kind::ExpressionStatement as u32
+    | 1 << Kind::Let as u32
+    | 1 << Kind::Array as u32
+    | 1 << Kind::Call as u32
+    | 1 << Kind::Assignment as u32
+    | 1 << Kind::PrivateIn as u32
+    | 1 << Kind::DecorateCall as u32
+    | 1 << Kind::ParameterCall as u32
+    | 1 << Kind::PrototypeOf as u32
+    | 1 << Kind::Other as u32
+    | 1 << Kind::Decorators as u32;
 
-// The class under a 4 with the payload.
+// The class under a class statement with the payload.
 fn class_under(payload: u32) -> Slot
     requires { payload < 3 }
     ensures { slot_of result ≡ class_under payload }
@@ -182,7 +183,7 @@ fn parameter_decorators(parameter: Slot) -> Slot
 }
 
 // The children of a record that has some: the first run, the others below it on the stack.
-fn children<const N: usize>(stack: &mut Stack<N>, slot: Slot, left: u8, w: u32) -> Run
+fn children<const N: usize>(stack: &mut Stack<N>, slot: Slot, left: u32, w: u32) -> Run
     requires some { bit_of leaves (kind_of w) ≡ 0 }
     requires allowed { allowed (slot_of slot) (kind_of w) (payload_of w) ≡ true }
     requires room { length stack.old + 3 ≤ N }
@@ -194,41 +195,41 @@ fn children<const N: usize>(stack: &mut Stack<N>, slot: Slot, left: u8, w: u32) 
         return Run::new(Slot::Expression, left, words::child_count(w));
     }
     let p = words::payload_of(w);
-    match words::kind_of(w) {
-        1 => {
+    match Kind::of(w) {
+        Some(Kind::Module) => {
             stack.push(Run::new(Slot::OwnStatement, left, p));
             Run::new(Slot::Symbols, left, 1)
         }
-        4 => Run::new(class_under(p), left, 1),
-        20 => Run::new(Slot::ClassExpression, left, 1),
-        21 => {
+        Some(Kind::ClassStatement) => Run::new(class_under(p), left, 1),
+        Some(Kind::ClassExpression) => Run::new(Slot::ClassExpression, left, 1),
+        Some(Kind::Function) => {
             stack.push(Run::new(Slot::Code, left, 1));
             Run::new(Slot::FunctionParameters, left, 1)
         }
-        26 => {
+        Some(Kind::Class) => {
             stack.push(Run::new(Slot::Body, left, 1));
             stack.push(Run::new(Slot::Expression, left, p / 4 % 2));
             stack.push(Run::new(Slot::Id, left, p % 2));
             Run::new(Slot::Decorators, left, 1)
         }
-        29 => Run::new(Slot::Element, left, p),
-        30 => {
+        Some(Kind::Body) => Run::new(Slot::Element, left, p),
+        Some(Kind::Method) => {
             stack.push(Run::new(Slot::Code, left, p / 4 % 2));
             stack.push(Run::new(Slot::Parameters, left, 1));
             stack.push(Run::new(Slot::Key, left, 1));
             Run::new(method_decorators(p / 2 % 2), left, 1)
         }
-        31 => {
+        Some(Kind::Property) => {
             stack.push(Run::new(Slot::Expression, left, p / 2 % 2));
             stack.push(Run::new(Slot::Key, left, 1));
             Run::new(Slot::Decorators, left, 1)
         }
-        32 => {
+        Some(Kind::AbstractAccessor) => {
             stack.push(Run::new(Slot::Key, left, 1));
             Run::new(Slot::Decorators, left, 1)
         }
-        36 => Run::new(parameter_of(slot), left, p),
-        37 => {
+        Some(Kind::Parameters) => Run::new(parameter_of(slot), left, p),
+        Some(Kind::Parameter) => {
             stack.push(Run::new(Slot::Expression, left, p));
             Run::new(parameter_decorators(slot), left, 1)
         }
@@ -243,12 +244,12 @@ fn scan<const N: usize>(ws: &[u32], symbols: u32) -> Option<Result<(), Refusal>>
     ensures scanned { IfSome result (λ r. code_of r ≡ judge symbols (top ∷ []) ws.now) }
 {
     let mut stack = Stack::<N>::new();
-    let mut run = Run::new(Slot::Module, grammar::MAX_DEPTH as u8, 1);
+    let mut run = Run::new(Slot::Module, grammar::MAX_DEPTH, 1);
     for w in ws {
         let Some(next) = stack.next(run) else {
             return Some(Err(Refusal::Malformed));
         };
-        if let Err(refusal) = grammar::fault(symbols, next.slot, next.left as u32, *w) {
+        if let Err(refusal) = grammar::fault(symbols, next.slot, next.left, *w) {
             return Some(Err(refusal));
         }
         let rest = Run::new(next.slot, next.left, next.count - 1);
@@ -291,7 +292,7 @@ pub fn validate(ws: &[u32]) -> Result<(), Refusal>
     let symbols = symbol_count(ws);
     // A shorter module has a shorter stack first: it is cleared sooner, and seldom too short.
     if ws.len() <= 64 {
-        if let Some(answer) = scan::<40>(ws, symbols) {
+        if let Some(answer) = scan::<32>(ws, symbols) {
             return answer;
         }
     }

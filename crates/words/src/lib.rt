@@ -5,6 +5,10 @@ ghost use Rattle.std.specs.Prelude.{◌≡◌, ◌<◌};
 ghost use Rattle.words.specs.Word.{kind_of, payload_of, word_of, children};
 ghost use Rattle.words.specs.Shape.{shape_of, children_by, bit_of, apart};
 
+mod kinds;
+
+pub use kinds::{Kind, is_kind};
+
 // The top 6 bits.
 pub fn kind_of(w: u32) -> u32
     ensures { result ≡ kind_of w }
@@ -30,33 +34,38 @@ pub fn word_of(kind: u32, payload: u32) -> u32
 // Sets of kinds, bit k for the kind k.
 
 // The kinds with one child that is always there.
-const ONE: u64 = 1 << 1
-    | 1 << 2
-    | 1 << 4
-    | 1 << 5
-    | 1 << 17
-    | 1 << 18
-    | 1 << 19
-    | 1 << 20
-    | 1 << 23
-    | 1 << 24
-    | 1 << 37;
+const ONE: u64 = 1 << Kind::Module as u32
+    | 1 << Kind::ExpressionStatement as u32
+    | 1 << Kind::ClassStatement as u32
+    | 1 << Kind::Let as u32
+    | 1 << Kind::Call as u32
+    | 1 << Kind::Assignment as u32
+    | 1 << Kind::PrivateIn as u32
+    | 1 << Kind::ClassExpression as u32
+    | 1 << Kind::ParameterCall as u32
+    | 1 << Kind::PrototypeOf as u32
+    | 1 << Kind::Parameter as u32;
 
 // The kinds whose payload counts the children, or the other children.
-const MANY: u64 = 1 << 1
-    | 1 << 3
-    | 1 << 16
-    | 1 << 17
-    | 1 << 22
-    | 1 << 28
-    | 1 << 29
-    | 1 << 33
-    | 1 << 36
-    | 1 << 37
-    | 1 << 39;
+const MANY: u64 = 1 << Kind::Module as u32
+    | 1 << Kind::Block as u32
+    | 1 << Kind::Array as u32
+    | 1 << Kind::Call as u32
+    | 1 << Kind::DecorateCall as u32
+    | 1 << Kind::Decorators as u32
+    | 1 << Kind::Body as u32
+    | 1 << Kind::StaticBlock as u32
+    | 1 << Kind::Parameters as u32
+    | 1 << Kind::Parameter as u32
+    | 1 << Kind::Code as u32;
 
 // The kinds whose children are counted in other ways.
-const APART: u64 = 1 << 21 | 1 << 25 | 1 << 26 | 1 << 30 | 1 << 31 | 1 << 32;
+const APART: u64 = 1 << Kind::Function as u32
+    | 1 << Kind::Other as u32
+    | 1 << Kind::Class as u32
+    | 1 << Kind::Method as u32
+    | 1 << Kind::Property as u32
+    | 1 << Kind::AbstractAccessor as u32;
 
 // 1 if the word's kind is in the set, or 0.
 pub fn kind_bit(set: u64, w: u32) -> u32
@@ -65,16 +74,18 @@ pub fn kind_bit(set: u64, w: u32) -> u32
     ((set >> (w >> 26)) & 1) as u32
 }
 
-// The number of children of a record of a kind in APART.
-fn counted_apart(kind: u32, payload: u32) -> u32
-    requires { (kind < 64) × (bit_of apart kind ≡ 1) }
-    ensures { result ≡ children_by payload (shape_of kind) }
+// The number of children of a record whose kind is in APART.
+#[tactic(auto, using(crate::specs::Kinds::number_named), unfolding(crate::specs::Shape::children_by, crate::specs::Shape::shape_of, crate::specs::Shape::shapes, crate::specs::Shape::counted, crate::specs::Table::lookup, crate::specs::Word::bit0, crate::specs::Word::bit1, crate::specs::Word::bit2))]
+fn counted_apart(w: u32) -> u32
+    requires { bit_of apart (kind_of w) ≡ 1 }
+    ensures { result ≡ children_by (payload_of w) (shape_of (kind_of w)) }
 {
-    match kind {
-        25 => payload % 256,
-        26 => 2 + payload % 2 + payload / 4 % 2,
-        30 => 3 + payload / 4 % 2,
-        31 => 2 + payload / 2 % 2,
+    let payload = payload_of(w);
+    match Kind::of(w) {
+        Some(Kind::Other) => payload % 256,
+        Some(Kind::Class) => 2 + payload % 2 + payload / 4 % 2,
+        Some(Kind::Method) => 3 + payload / 4 % 2,
+        Some(Kind::Property) => 2 + payload / 2 % 2,
         _ => 2,
     }
 }
@@ -84,7 +95,7 @@ pub fn child_count(w: u32) -> u32
     ensures { result ≡ children (kind_of w) (payload_of w) }
 {
     if kind_bit(APART, w) != 0 {
-        return counted_apart(kind_of(w), payload_of(w));
+        return counted_apart(w);
     }
     let one = kind_bit(ONE, w);
     if kind_bit(MANY, w) != 0 {

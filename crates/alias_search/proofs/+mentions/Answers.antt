@@ -4,10 +4,13 @@ use Rattle.alias_search.specs.Walk.{left_hit, left_next, left_end, left_split, b
 use Rattle.alias_search.specs.Read.{mentions_gone}
 use Rattle.alias_search.specs.Mentions.{whole, gone, until, each, elements as elements-mode, behind, of_field, of_method, mentions as mentions-all}
 use Rattle.inspect.specs.Reads.{step_low}
+use Rattle.words.specs.Kinds.{number, number_other}
+use Rattle.words.specs.declared.kinds.Kind.TheVariants.{ClassStatement, Method, Property, AbstractAccessor}
 use Rattle.records.specs.Place.{label_at, kids_at}
 use Rattle.std.proofs.Common.{rules}
 use lib.ListN.{length}
 use native.Mathlib.Omega.{arith}
+use borrow.Author.Tests.{eqb-true, eqb-false}
 use mathlib.Core.Bool.{cond}
 use mathlib.Core.Path.{refl, ap, sym, ◌∙◌}
 use Rattle.alias_search.proofs.+mentions.Goals as goal
@@ -52,21 +55,21 @@ but_first-mentions-requires t c =
     let i = c.loop-q.invariant in
     (omega (arith, step_low s, s.place, s.inside, ap length s.words, ap length i.words, i.low), tt)
 
-pub but_first-returns-then-kind_at-kind : goal.but_first-returns-then-kind_at-kind
-but_first-returns-then-kind_at-kind t c = c.mentions.ensures ∙ sym (until_rest c.args.c c.args.kind c.loop-q.invariant c.in-Some.ensures.steps.goes c.requires (sym c.kind_at.ensures ∙ c.if-kind_at-kind.true))
+pub but_first-returns-then-is_kind_at : goal.but_first-returns-then-is_kind_at
+but_first-returns-then-is_kind_at t c = c.mentions.ensures ∙ sym (until_rest c.args.c (number c.args.kind) c.loop-q.invariant c.in-Some.ensures.steps.goes c.requires (eqb-true _ _ (sym c.is_kind_at.ensures ∙ c.if-is_kind_at.true)))
 
 pub but_first-returns-then-mentions_record : goal.but_first-returns-then-mentions_record
 but_first-returns-then-mentions_record t c =
-    let other = until_other c.args.c _ _ c.args.kind (λ e. c.if-kind_at-kind.false (c.kind_at.ensures ∙ e)) in
-    sym (left_hit c.args.c (until c.args.kind gone) c.loop-q.invariant c.in-Some.ensures.steps.goes (other.0 ∙ sym c.mentions_record.ensures ∙ c.if-mentions_record.true))
+    let other = until_other c.args.c _ _ (number c.args.kind) (eqb-false _ _ (sym c.is_kind_at.ensures ∙ c.if-is_kind_at.false)) in
+    sym (left_hit c.args.c (until (number c.args.kind) gone) c.loop-q.invariant c.in-Some.ensures.steps.goes (other.0 ∙ sym c.mentions_record.ensures ∙ c.if-mentions_record.true))
 
 pub but_first-loop-q-preserved : goal.but_first-loop-q-preserved
 but_first-loop-q-preserved t c =
-    let other = until_other c.args.c _ _ c.args.kind (λ e. c.if-kind_at-kind.false (c.kind_at.ensures ∙ e)) in
-    left_next c.args.c (until c.args.kind gone) c.loop-q.invariant c.in-Some.ensures.steps.goes (other.0 ∙ sym c.mentions_record.ensures ∙ c.if-mentions_record.false) other.1
+    let other = until_other c.args.c _ _ (number c.args.kind) (eqb-false _ _ (sym c.is_kind_at.ensures ∙ c.if-is_kind_at.false)) in
+    left_next c.args.c (until (number c.args.kind) gone) c.loop-q.invariant c.in-Some.ensures.steps.goes (other.0 ∙ sym c.mentions_record.ensures ∙ c.if-mentions_record.false) other.1
 
 pub but_first-returns : goal.but_first-returns
-but_first-returns t c = sym (left_end c.args.c (until c.args.kind gone) c.loop-q.invariant c.in_default.ensures.steps.gives.0)
+but_first-returns t c = sym (left_end c.args.c (until (number c.args.kind) gone) c.loop-q.invariant c.in_default.ensures.steps.gives.0)
 
 pub elements-all_elements-requires : goal.elements-all_elements-requires
 elements-all_elements-requires t c =
@@ -107,21 +110,26 @@ elements-returns t c = sym (left_end c.args.c (elements-mode (cond c.args.droppe
 pub mentions_record-returns-then-mentions_word : goal.mentions_record-returns-then-mentions_word
 mentions_record-returns-then-mentions_word t c = sym (record_word c.args.c _ _ (sym c.mentions_word.ensures ∙ c.if-mentions_word.true))
 
-pub mentions_record-returns-in-4 : goal.mentions_record-returns-in-4
-mentions_record-returns-in-4 t c = c.class_statement.ensures ∙ sym (record_kids c.args.c _ _ (sym c.mentions_word.ensures ∙ c.if-mentions_word.false) refl)
+pub mentions_record-returns-in-Some-ClassStatement : goal.mentions_record-returns-in-Some-ClassStatement
+mentions_record-returns-in-Some-ClassStatement t c = c.class_statement.ensures ∙ sym (record_kids c.args.c _ _ (sym c.mentions_word.ensures ∙ c.if-mentions_word.false) refl)
 
-pub mentions_record-returns-in-30 : goal.mentions_record-returns-in-30
-mentions_record-returns-in-30 t c = c.method.ensures ∙ sym (record_kids c.args.c _ _ (sym c.mentions_word.ensures ∙ c.if-mentions_word.false) refl)
+pub mentions_record-returns-in-Some-Method : goal.mentions_record-returns-in-Some-Method
+mentions_record-returns-in-Some-Method t c = c.method.ensures ∙ sym (record_kids c.args.c _ _ (sym c.mentions_word.ensures ∙ c.if-mentions_word.false) refl)
 
-pub mentions_record-returns-in-31 : goal.mentions_record-returns-in-31
-mentions_record-returns-in-31 t c =
+pub mentions_record-returns-in-Some-Property : goal.mentions_record-returns-in-Some-Property
+mentions_record-returns-in-Some-Property t c =
     let k = kids_at c.args.ws.now c.args.at in
-    c.mentions.ensures ∙ all_reads c.args.c c.undecorated.ensures.0 ∙ sym (record_kids c.args.c _ k (sym c.mentions_word.ensures ∙ c.if-mentions_word.false) (inner_field c.args.c _ k (omega arith) (omega arith)) ∙ field_kids c.args.c k)
+    let n = c.in-Some-Property.ensures.number in
+    c.mentions.ensures ∙ all_reads c.args.c c.undecorated.ensures.0 ∙ sym (record_kids c.args.c _ k (sym c.mentions_word.ensures ∙ c.if-mentions_word.false) (inner_field c.args.c _ k (grind (arith, n)) (grind (arith, n))) ∙ field_kids c.args.c k)
 
 pub mentions_record-returns-in_default : goal.mentions_record-returns-in_default
 mentions_record-returns-in_default t c =
     let k = kids_at c.args.ws.now c.args.at in
-    c.mentions-in_default.ensures ∙ all_reads c.args.c c.children.ensures.0 ∙ sym (record_kids c.args.c _ k (sym c.mentions_word.ensures ∙ c.if-mentions_word.false) (inner_other c.args.c _ k (λ e. grind arith) (λ e. grind arith) (λ e. grind arith) (λ e. grind arith)))
+    c.mentions-in_default.ensures ∙ all_reads c.args.c c.children.ensures.0 ∙ sym (record_kids c.args.c _ k (sym c.mentions_word.ensures ∙ c.if-mentions_word.false) (inner_other c.args.c _ k
+    (number_other ClassStatement c.kind_at.ensures.named (λ s. grind (arith, s)))
+    (number_other Method c.kind_at.ensures.named (λ s. grind (arith, s)))
+    (number_other Property c.kind_at.ensures.named (λ s. grind (arith, s)))
+    (number_other AbstractAccessor c.kind_at.ensures.named (λ s. grind (arith, s)))))
 
 pub element-returns-then-mentions_word : goal.element-returns-then-mentions_word
 element-returns-then-mentions_word t c = rw each_part (search rules)

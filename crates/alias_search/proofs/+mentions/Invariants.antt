@@ -1,5 +1,6 @@
 use Rattle.alias_search.specs.Walk.{Left}
 use Rattle.alias_search.specs.Mentions.{whole, gone, until, each, elements, of_field, of_method}
+use Rattle.words.specs.Kinds.{number}
 use lib.ListN.{length}
 use mathlib.Core.Bool.{cond}
 use Prim.Native.Nat.{◌+◌, ◌-◌, ◌*◌}
@@ -51,7 +52,7 @@ abbrev pub invariant-all_elements-loop-q : goal.invariant-all_elements-loop-q
 invariant-all_elements-loop-q l = Left l.c (each whole) l.records l.q-iterator
 
 abbrev pub invariant-but_first-loop-q : goal.invariant-but_first-loop-q
-invariant-but_first-loop-q l = Left l.c (until l.kind gone) l.initial.records l.records
+invariant-but_first-loop-q l = Left l.c (until (number l.kind) gone) l.initial.records l.records
 
 abbrev pub invariant-elements-loop-q : goal.invariant-elements-loop-q
 invariant-elements-loop-q l = Left l.c (elements (cond l.dropped of_method of_field)) l.initial.records l.records

@@ -1,6 +1,6 @@
 -- `total_record` and `total_records`: the measure is the number of words left; the invariant is the answer for the records passed, of which the still ones take nothing.
 use mathlib.Core.Bool.{Bool, ◌||◌}
-use mathlib.Core.Path.{◌≡◌, refl, ap, sym, subst, ◌∙◌}
+use mathlib.Core.Path.{◌≡◌, refl, sym, subst, ◌∙◌}
 use Prim.Native.Nat.{◌+◌, ◌-◌}
 use native.Mathlib.Omega.{arith}
 use borrow.Author.Tests.{not-true}
@@ -35,12 +35,12 @@ pub total_record-returns-then-is_walked : goal.total_record-returns-then-is_walk
 total_record-returns-then-is_walked t c =
     let g = c.args in
     let p = c.requires in
-    let k = ap is_walked (sym c.kind_at.ensures) ∙ sym c.is_walked.ensures ∙ c.if-is_walked.true in
+    let k = sym c.is_walked.ensures ∙ c.if-is_walked.true in
     total_other p.0 p.1 g.a g.has (kinds_apart is_walked _ 4 k (unfold is_walked in refl)) (kinds_apart is_walked _ 20 k (unfold is_walked in refl)) (kinds_apart is_walked _ 30 k (unfold is_walked in refl)) (kinds_apart is_walked _ 31 k (unfold is_walked in refl)) (kinds_apart is_walked _ 32 k (unfold is_walked in refl))
     (subst (λ (j : ℕ). Totals g.ws.now (g.at + 1) j g.a g.has c.total_records.result) c.children_at.ensures.0 c.total_records.ensures)
 
 pub total_record-total_single-requires : goal.total_record-total_single-requires
-total_record-total_single-requires t c = (c.requires.0, c.requires.1, ap is_walked (sym c.kind_at.ensures) ∙ sym c.is_walked.ensures ∙ c.if-is_walked.false)
+total_record-total_single-requires t c = (c.requires.0, c.requires.1, sym c.is_walked.ensures ∙ c.if-is_walked.false)
 
 pub total_record-returns : goal.total_record-returns
 total_record-returns t c = c.total_single.ensures

@@ -1,11 +1,12 @@
 -- `total_single`: the note, but for an element of a live class that is marked.
-use mathlib.Core.Path.{refl, ap, sym, ◌∙◌}
+use mathlib.Core.Path.{refl, sym}
 use native.Mathlib.Omega.{arith}
 use borrow.Author.Tests.{not-true, not-false}
-use Rattle.walk_laws.specs.Kinds.{is_element_kind}
+use Rattle.words.specs.Kinds.{number_other}
+use Rattle.words.specs.declared.kinds.Kind.TheVariants.{Method, Property, AbstractAccessor}
 use Rattle.counter.specs.Contract.{is_walked}
 use Rattle.counter.specs.Totals.{kinds_apart, element_kind, total_same, note_at, total_dead, total_unmarked, total_quiet}
-use Rattle.counter.proofs.total_single.Goals.{then-not-note-via-then-not-note, then-not-note-via-else-not-note+then-not-a, in_default-via-then-kind_at-lt30, in_default-via-else-kind_at-lt30+else-this-lt33}
+use Rattle.counter.proofs.total_single.Goals.{then-not-note-via-then-not-note, then-not-note-via-else-not-note+then-not-a}
 use Rattle.counter.proofs.total_single.Goals as goal
 
 pub returns-then-not-note : goal.returns-then-not-note
@@ -19,16 +20,17 @@ returns-then-not-note c =
     ]
 
 pub total_element-requires : goal.total_element-requires
-total_element-requires c = (c.requires.0, c.requires.1, ap is_element_kind (sym c.kind_at.ensures) ∙ element_kind _ (omega arith) (omega arith), not-false _ c.if-not-a.false)
+total_element-requires c =
+    let n = c.in-Some-Method.ensures.number in
+    (c.requires.0, c.requires.1, element_kind _ (grind (arith, n)) (grind (arith, n)), not-false _ c.if-not-a.false)
 
 pub returns-in_default : goal.returns-in_default
 returns-in_default c =
     let g = c.args in
     let p = c.requires in
     let e = c.from_note-in_default.ensures in
-    let k = c.kind_at.ensures in
     total_same _ (total_quiet p.0 p.1 g.a g.has _ (note_at _ _ _ p.0.noted p.1) (λ e. kinds_apart is_walked 26 _ (unfold is_walked in refl) p.2 (sym e)) (λ e. kinds_apart is_walked 29 _ (unfold is_walked in refl) p.2 (sym e))
-    (λ e. elim c.in_default.branch [ in_default-via-then-kind_at-lt30 w ↦ omega (arith, k, e) | in_default-via-else-kind_at-lt30+else-this-lt33 w ↦ omega (arith, k, e) ])
-    (λ e. elim c.in_default.branch [ in_default-via-then-kind_at-lt30 w ↦ omega (arith, k, e) | in_default-via-else-kind_at-lt30+else-this-lt33 w ↦ omega (arith, k, e) ])
-    (λ e. elim c.in_default.branch [ in_default-via-then-kind_at-lt30 w ↦ omega (arith, k, e) | in_default-via-else-kind_at-lt30+else-this-lt33 w ↦ omega (arith, k, e) ]))
+    (number_other Method c.kind_at.ensures.named (λ s. grind (arith, s)))
+    (number_other Property c.kind_at.ensures.named (λ s. grind (arith, s)))
+    (number_other AbstractAccessor c.kind_at.ensures.named (λ s. grind (arith, s))))
     e.0 e.1 e.2

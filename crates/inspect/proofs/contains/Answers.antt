@@ -7,17 +7,18 @@ use Rattle.std.proofs.Common.{rules}
 use Rattle.std.proofs.lemmas.Iterator.{YieldsList-from_slice}
 use Rattle.std.proofs.lemmas.Iterator.Search.{any_from_yields_List}
 use Rattle.words.specs.Word.{kind_of}
+use Rattle.words.specs.Kinds.{number}
 use Rattle.inspect.specs.Inside.{any_part, no_part}
 use Rattle.inspect.proofs.contains.Goals as goal
 
 pub returns-in_default : goal.returns-in_default
 returns-in_default c =
     let a = c.args in
-    sym (no_part a.kind a.ws.now a.at a.k c.behind-e.result c.behind-e.ensures c.in_default.ensures.lookup.0)
+    sym (no_part (number a.kind) a.ws.now a.at a.k c.behind-e.result c.behind-e.ensures c.in_default.ensures.lookup.0)
 
 pub returns : goal.returns
 returns c =
     let a = c.args in
     let part = c.in-Some.ensures.lookup.0 in
-    any_from_yields_List (λ (w : ℕ). eqb (kind_of w) a.kind) _ _ _ c.any.ensures.ran (YieldsList-from_slice _ (c.iter.ensures.rest ∙ part.2)) (λ x b q k. search (rules, tests))
-    ∙ any_part a.kind a.ws.now a.at a.k c.behind-e.result c.behind-e.ensures part.0 part.1
+    any_from_yields_List (λ (w : ℕ). eqb (kind_of w) (number a.kind)) _ _ _ c.any.ensures.ran (YieldsList-from_slice _ (c.iter.ensures.rest ∙ part.2)) (λ x b q k. search (rules, tests))
+    ∙ any_part (number a.kind) a.ws.now a.at a.k c.behind-e.result c.behind-e.ensures part.0 part.1

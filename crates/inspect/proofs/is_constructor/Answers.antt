@@ -5,10 +5,10 @@ use Rattle.records.specs.Label.{bit, is, read_at}
 use Rattle.rewriting.specs.Parts.{is_constructor}
 use Rattle.inspect.proofs.is_constructor.Goals as goal
 
-pub returns-then-kind_of-eq30 : goal.returns-then-kind_of-eq30
+pub returns-then-is_kind : goal.returns-then-is_kind
 unfolding is_constructor is bit bit1 read_at
-returns-then-kind_of-eq30 c = search rules
+returns-then-is_kind c = search rules
 
-pub returns-else-kind_of-eq30 : goal.returns-else-kind_of-eq30
+pub returns-else-is_kind : goal.returns-else-is_kind
 unfolding is_constructor is bit bit1 read_at
-returns-else-kind_of-eq30 c = search rules
+returns-else-is_kind c = search rules

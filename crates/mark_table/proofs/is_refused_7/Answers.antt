@@ -3,28 +3,29 @@ use Rattle.mark_table.specs.Marks.{ClassMark}
 use Rattle.inspect.specs.Refused.{refused_dead, refused_decorated, refused_other, refused_plain}
 use Rattle.walk_laws.specs.Kinds.{class_inside, class_kind}
 use native.Mathlib.Omega.{arith}
+use borrow.Author.Tests.{eqb-true, eqb-false}
 use mathlib.Core.Bool.{not}
 use mathlib.Core.Path.{ap, sym, ◌∙◌}
-use Rattle.mark_table.proofs.is_refused_7.Goals.{then-kind_at-ne4-via-then-kind_at-ne4, then-kind_at-ne4-via-else-kind_at-ne4+then-not-is_live}
+use Rattle.mark_table.proofs.is_refused_7.Goals.{then-not-is_kind_at-via-then-not-is_kind_at, then-not-is_kind_at-via-else-not-is_kind_at+then-not-is_live}
 use Rattle.mark_table.proofs.is_refused_7.Goals as goal
 
-pub returns-then-kind_at-ne4 : goal.returns-then-kind_at-ne4
-returns-then-kind_at-ne4 c =
-    elim c.then-kind_at-ne4.branch [
-      | then-kind_at-ne4-via-then-kind_at-ne4 w ↦ sym (refused_other c.args.ws.now c.args.i (λ e. w.if-kind_at-ne4.true (c.kind_at.ensures ∙ e)))
-      | then-kind_at-ne4-via-else-kind_at-ne4+then-not-is_live w ↦
-          sym (refused_dead c.args.ws.now c.args.i (sym c.kind_at.ensures ∙ w.if-kind_at-ne4.false) (sym w.is_live.ensures ∙ w.if-not-is_live.true))
+pub returns-then-not-is_kind_at : goal.returns-then-not-is_kind_at
+returns-then-not-is_kind_at c =
+    elim c.then-not-is_kind_at.branch [
+      | then-not-is_kind_at-via-then-not-is_kind_at w ↦ sym (refused_other c.args.ws.now c.args.i (eqb-false _ 4 (sym c.is_kind_at.ensures ∙ w.if-not-is_kind_at.true)))
+      | then-not-is_kind_at-via-else-not-is_kind_at+then-not-is_live w ↦
+          sym (refused_dead c.args.ws.now c.args.i (eqb-true _ 4 (sym c.is_kind_at.ensures ∙ w.if-not-is_kind_at.false)) (sym w.is_live.ensures ∙ w.if-not-is_live.true))
     ]
 
 pub bounds-notes-i : goal.bounds-notes-i
-bounds-notes-i c = omega (arith, class_inside c.args.ws.now c.requires.2 c.args.i c.requires.0 (sym c.kind_at.ensures ∙ c.if-kind_at-ne4.false), c.requires.1.long)
+bounds-notes-i c = omega (arith, class_inside c.args.ws.now c.requires.2 c.args.i c.requires.0 (eqb-true _ 4 (sym c.is_kind_at.ensures ∙ c.if-not-is_kind_at.false)), c.requires.1.long)
 
 pub returns-then-notes-i : goal.returns-then-notes-i
 unfolding ClassMark
 returns-then-notes-i c =
     let ws = c.args.ws.now in
     let p = c.requires in
-    let k = sym c.kind_at.ensures ∙ c.if-kind_at-ne4.false in
+    let k = eqb-true _ 4 (sym c.is_kind_at.ensures ∙ c.if-not-is_kind_at.false) in
     let m = p.3 (class_inside ws p.2 c.args.i p.0 k) (class_kind ws p.2 c.args.i p.0 k) in
     ap not c.class_decorated_first.ensures ∙ sym (refused_decorated ws c.args.i k (sym c.is_live.ensures ∙ c.if-not-is_live.false) (sym m ∙ c.if-notes-i.true))
 
@@ -33,6 +34,6 @@ unfolding ClassMark
 returns-else-notes-i c =
     let ws = c.args.ws.now in
     let p = c.requires in
-    let k = sym c.kind_at.ensures ∙ c.if-kind_at-ne4.false in
+    let k = eqb-true _ 4 (sym c.is_kind_at.ensures ∙ c.if-not-is_kind_at.false) in
     let m = p.3 (class_inside ws p.2 c.args.i p.0 k) (class_kind ws p.2 c.args.i p.0 k) in
     c.if-notes-i.false ∙ sym (refused_plain ws c.args.i k (sym c.is_live.ensures ∙ c.if-not-is_live.false) (sym m ∙ c.if-notes-i.false))

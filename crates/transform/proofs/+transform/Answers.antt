@@ -15,6 +15,8 @@ use Rattle.transform.specs.Contract.{word_below, Asks, calls_at, here_at, kids_h
 use Rattle.walk_laws.specs.ClassPlan.{queue_words}
 use Rattle.counter.specs.Steps.{counts_on, ready_next, ready_behind, below_more}
 use lib.Dec.{eqb}
+use borrow.Author.Tests.{eqb-true, eqb-false}
+use Rattle.words.specs.Word.{kind_of, payload_of}
 use Prim.Native.Nat.{◌+◌, ℕ, ◌<◌}
 use mathlib.Core.Bool.{not}
 use Rattle.transform.specs.StepsCalls.{arity_few, asks_step, asks_marked, below_state, give_none, give_add, give_few, indexed_none, parameters_none, parameters_append, give_decorator, give_parameter, queue_none, queue_add, queue_fit, queue_nothing, call_size, queue_call, call_symbols, decorated_kind, entries_marked, own_fit, field_written, method_fit, method_written, asks_parameters, parameters_place, parameters_kind, decorator_fit, decorator_asks, parameter_asks, parameters_done, decorators_done, queue_few}
@@ -26,11 +28,11 @@ use Rattle.rewriting.specs.Parts.{indexed as indexed', of_parameters}
 use Rattle.grammar.specs.WellFormed.{Allowed}
 use Rattle.grammar.specs.Grammar.{element}
 use Rattle.records.specs.Forest.{size, count_size}
-use Rattle.transform.specs.StepsMembers.{bared_none, bared_add, asks_parameter, parameter_place, moved_parameters, asks_value, moved_parameter, element_small, element_keyed, asks_field, wrote_field, method_three, asks_key, asks_called, called_place, called_on, asks_rest, rest_on, wrote_method, key_least, member_length, moved_member, member_some, parameter_room}
+use Rattle.transform.specs.StepsMembers.{bared_none, bared_add, asks_parameter, parameter_place, moved_parameters, asks_value, moved_parameter, element_keyed, asks_field, wrote_field, method_three, asks_key, asks_called, called_place, called_on, asks_rest, rest_on, wrote_method, key_least, member_length, moved_member, member_some, parameter_room}
 use Rattle.walk_laws.specs.Elements.{parameter_marked}
 use lib.ListN.{length}
 use mathlib.Core.Path.{refl, ap, sym, ◌∙◌, ◌≡◌, subst}
-use Rattle.transform.specs.StepsRecords.{list_size, emit_list, emit_inside, asks_one, member_size, emit_member, kind_small, emit_rest, asks_next, one_below, below_size, emit_below}
+use Rattle.transform.specs.StepsRecords.{list_size, emit_list, emit_inside, asks_one, member_size, emit_member, word_kind, word_payload, emit_rest, asks_next, one_below, below_size, emit_below}
 use native.Mathlib.Omega.{arith}
 use Rattle.transform.proofs.+transform.Goals as goal
 
@@ -193,7 +195,7 @@ calls-put-p1-requires t c =
     let h : l.v.at < length g.ws.now = omega (arith, x.moved.place, y.0) in
     let e = subst (λ (j : ℕ). Allowed element (label_at g.ws.now j)) (sym x.moved.place) y.1 in
     let f = asks_step p.0 g.a g.w.state l.counter l.v.at l.v.state l.v.pos (size (calls_at g.ws.now l.v.at 1 g.a l.v.state)) refl b x.moved.place x.moved.state (omega (arith, fit, p.0.fit)) in
-    (f.stack, omega (arith, f.fit), omega arith, omega arith)
+    (f.stack, omega (arith, f.fit), omega arith)
 
 pub calls-put-p2-requires : goal.calls-put-p2-requires
 calls-put-p2-requires t c =
@@ -210,7 +212,7 @@ calls-put-p2-requires t c =
     let d = sym (allowed_mark l.v.at e f.ready.planned h) ∙ c.if-not-notes-at.false in
     let k = c.count_record-r.ensures in
     let z = call_size g.ws.now f.ready.whole l.v.at h g.a l.v.state g.c p.3 d k in
-    (f.stack, omega (arith, z, f.fit, c.put-p1.ensures.end), omega arith, omega arith)
+    (f.stack, omega (arith, z, f.fit, c.put-p1.ensures.end), omega arith)
 
 pub calls-put-requires : goal.calls-put-requires
 calls-put-requires t c =
@@ -227,7 +229,7 @@ calls-put-requires t c =
     let d = sym (allowed_mark l.v.at e f.ready.planned h) ∙ c.if-not-notes-at.false in
     let k = c.count_record-r.ensures in
     let z = call_size g.ws.now f.ready.whole l.v.at h g.a l.v.state g.c p.3 d k in
-    (f.stack, omega (arith, f.fit, c.put-p1.ensures.end, c.put-p2.ensures.end), omega arith, omega (arith, z, count_size (entries' (word_below g.c) g.ws.now g.a l.v.at l.v.state), f.fit, c.entries-e.ensures.1))
+    (f.stack, omega (arith, f.fit, c.put-p1.ensures.end, c.put-p2.ensures.end), omega (arith, z, count_size (entries' (word_below g.c) g.ws.now g.a l.v.at l.v.state), f.fit, c.entries-e.ensures.1))
 
 pub class-kept-r-requires : goal.class-kept-r-requires
 class-kept-r-requires t c =
@@ -236,13 +238,13 @@ class-kept-r-requires t c =
     let b = c.scope_below.result in
     let s = c.scope_below.ensures in
     let w = f.0.ready.whole in
-    (omega (arith, f.2), (asks_one f.0 (one_below g.ws.now g.w.at g.a g.w.state g.c f.2 w f.3 b s) c.put-pos.result (size (here_at g.ws.now (g.w.at + 1) 1 b (begun g.w.state.next))) f.2 (omega (arith, f.0.fit, below_size g.ws.now g.w.at g.a g.w.state g.c f.2 w f.3 b s, c.put-pos.ensures.end)), omega arith, kept_below g.ws.now w g.w.at f.2 f.3))
+    (omega (arith, f.2), (asks_one f.0 (one_below g.ws.now g.w.at g.a g.w.state g.c f.2 w f.3 b s) c.copy_word-pos.result (size (here_at g.ws.now (g.w.at + 1) 1 b (begun g.w.state.next))) f.2 (omega (arith, f.0.fit, below_size g.ws.now g.w.at g.a g.w.state g.c f.2 w f.3 b s, c.copy_word-pos.ensures.end)), omega arith, kept_below g.ws.now w g.w.at f.2 f.3))
 
 pub class-returns : goal.class-returns
 class-returns t c =
     let g = c.args in
     let f = c.requires in
-    emit_below g.ws.now g.w.at g.a g.w.state g.c f.2 f.0.ready.whole f.3 c.scope_below.result c.scope_below.ensures c.kind_at.result c.payload_at.result c.kind_at.ensures c.payload_at.ensures.0 c.put-pos.ensures c.kept-r.ensures
+    emit_below g.ws.now g.w.at g.a g.w.state g.c f.2 f.0.ready.whole f.3 c.scope_below.result c.scope_below.ensures (kind_of c.word_at.result) (payload_of c.word_at.result) (word_kind g.ws.now g.w.at c.word_at.ensures) (word_payload g.ws.now g.w.at c.word_at.ensures) c.copy_word-pos.ensures c.kept-r.ensures
 
 pub class_body-calls-requires : goal.class_body-calls-requires
 class_body-calls-requires t c =
@@ -276,7 +278,6 @@ class_body-put-p1-requires t c =
     let p = c.requires in (
       p.0.stack,
       omega (arith, p.0.fit),
-      omega arith,
       omega (arith, c.children_at-k.ensures.0, arity_few c.args.ws.now p.0.ready.whole c.args.w.at p.1, p.0.ready.few, c.from.ensures, bit_le c.has_front.result, c.from-2.ensures, bit_le c.has_block-block.result),
     )
 
@@ -287,7 +288,6 @@ class_body-put-p4-requires t c =
     let y = sym c.has_block-block.ensures ∙ c.if-not-block.false in (
       p.0.stack,
       omega (arith, body_room c.args.g c.args.w.state p.0 c.body_stack-inner.result r.2, c.elements-p3.ensures.end, c.alias_block-p2.ensures.end, c.put-p1.ensures.end),
-      omega arith,
       omega (arith, body_room c.args.g c.args.w.state p.0 c.body_stack-inner.result r.2, block_room c.args.g c.args.w.state p.0 c.body_stack-inner.result r.2 y, p.6 (block_private c.args.g c.args.w.state p.0 c.body_stack-inner.result r.2 y), count_size (calls_at c.args.ws.now (c.args.w.at + 1) (arity_at c.args.ws.now c.args.w.at) (scope_of c.args.g) c.args.w.state)),
     )
 
@@ -332,7 +332,6 @@ create_assignment-put-requires t c =
     let e = c.first_entries-e.ensures in (
       p.0.stack,
       omega (arith, (decorators_asks c.args.outer c.args.b.state p.0 p.1 p.2 p.4 p.6 p.7 c.children_at.result c.children_at.ensures.0 c.assignment_head-p1.result c.assignment_head-p1.ensures.end).fit),
-      omega arith,
       entries_few c.args.outer c.args.b.state p.0 p.1 p.2 p.4 p.6 p.7 c.children_at.result c.children_at.ensures.0 c.assignment_head-p1.ensures c.records-own.ensures c.body_stack-inner.result c.body_stack-inner.ensures.2 e.0 e.1,
     )
 
@@ -340,7 +339,7 @@ pub create_assignment-put-requires-2 : goal.create_assignment-put-requires-2
 create_assignment-put-requires-2 t c =
     let p = c.requires in
     let e = c.first_entries-e.ensures in
-    (p.0.stack, omega (arith, entries_end c.args.outer c.args.b.state p.0 p.1 p.2 p.4 p.6 p.7 c.children_at.result c.children_at.ensures.0 c.assignment_head-p1.ensures c.records-own.ensures c.body_stack-inner.result c.body_stack-inner.ensures.2 e.0 e.1), omega arith, subst Small p.5 p.4.symbols.sizes.1)
+    (p.0.stack, omega (arith, entries_end c.args.outer c.args.b.state p.0 p.1 p.2 p.4 p.6 p.7 c.children_at.result c.children_at.ensures.0 c.assignment_head-p1.ensures c.records-own.ensures c.body_stack-inner.result c.body_stack-inner.ensures.2 e.0 e.1), subst Small p.5 p.4.symbols.sizes.1)
 
 pub create_assignment-records-own-requires : goal.create_assignment-records-own-requires
 create_assignment-records-own-requires t c =
@@ -434,20 +433,20 @@ pub entries-returns : goal.entries-returns
 entries-returns t c =
     let g = c.args in
     let p = c.requires in
-    method_written g.ws.now p.0.ready.whole g.w.at p.2 g.a g.w.state g.c p.4 c.children_at.ensures.0 c.records-own.ensures (sym c.kind_at.ensures ∙ c.if-kind_at-ne30.false) c.count_records-key.ensures c.transform_decorators_of_parameters.ensures.0 c.transform_decorators_of_parameters.ensures.1
+    method_written g.ws.now p.0.ready.whole g.w.at p.2 g.a g.w.state g.c p.4 c.children_at.ensures.0 c.records-own.ensures (eqb-true _ 30 (sym c.is_kind_at.ensures ∙ c.if-not-is_kind_at.false)) c.count_records-key.ensures c.transform_decorators_of_parameters.ensures.0 c.transform_decorators_of_parameters.ensures.1
 
-pub entries-returns-then-kind_at-ne30 : goal.entries-returns-then-kind_at-ne30
-entries-returns-then-kind_at-ne30 t c =
+pub entries-returns-then-not-is_kind_at : goal.entries-returns-then-not-is_kind_at
+entries-returns-then-not-is_kind_at t c =
     let g = c.args in
     let p = c.requires in
-    field_written g.ws.now p.0.ready.whole g.w.at p.2 g.a g.w.state g.c p.4 c.children_at.ensures.0 c.records-own.ensures (λ e. c.if-kind_at-ne30.true (c.kind_at.ensures ∙ e))
+    field_written g.ws.now p.0.ready.whole g.w.at p.2 g.a g.w.state g.c p.4 c.children_at.ensures.0 c.records-own.ensures (eqb-false _ 30 (sym c.is_kind_at.ensures ∙ c.if-not-is_kind_at.true))
 
 pub entries-transform_decorators_of_parameters-requires : goal.entries-transform_decorators_of_parameters-requires
 entries-transform_decorators_of_parameters-requires t c =
     let g = c.args in
     let p = c.requires in
     let w = p.0.ready.whole in
-    let e = sym c.kind_at.ensures ∙ c.if-kind_at-ne30.false in
+    let e = eqb-true _ 30 (sym c.is_kind_at.ensures ∙ c.if-not-is_kind_at.false) in
     let k = c.count_records-key.ensures in
     let r = c.count_records-key.result in
     let t = method_fit g.ws.now w g.w.at p.2 g.a g.w.state g.c p.4 c.children_at.ensures.0 c.records-own.ensures e k in (
@@ -528,7 +527,7 @@ indexed-put-requires t c =
     let x = l.invariant in
     let b : l.counter < arity_at g.ws.now (g.w.at + 1) = omega (arith, c.children_at-k.ensures.0) in
     let t = decorator_fit p.0 p.2 g.a g.w.state refl l.counter p.3 g.j b refl x in
-    (p.0.stack, omega (arith, t, p.0.fit), omega arith, p.4)
+    (p.0.stack, omega (arith, t, p.0.fit), p.4)
 
 pub indexed-records-v-requires : goal.indexed-records-v-requires
 indexed-records-v-requires t c =
@@ -559,7 +558,7 @@ pub kept-loop-k-init : goal.kept-loop-k-init
 kept-loop-k-init t c =
     let g = c.args in
     let f = c.requires in
-    (refl, omega (arith, c.requires.1, c.put.ensures.end), keeping_start g.a g.w.state f.2 f.0 c.put.ensures c.children_at-k.ensures.0 c.children_at-k.ensures.1)
+    (refl, omega (arith, c.requires.1, c.copy_word.ensures.end), keeping_start g.a g.w.state f.2 f.0 c.copy_word.ensures c.children_at-k.ensures.0 c.children_at-k.ensures.1)
 
 pub kept-loop-k-preserved : goal.kept-loop-k-preserved
 kept-loop-k-preserved t c =
@@ -569,7 +568,7 @@ kept-loop-k-preserved t c =
 pub kept-loop-k-preserved-then-is_kept : goal.kept-loop-k-preserved-then-is_kept
 kept-loop-k-preserved-then-is_kept t c =
     let l = c.loop-k in
-    (c.put-then-is_kept.auto.out ∙ l.invariant.0, omega (arith, l.invariant.1, c.put-then-is_kept.ensures.end), keeping_kept l.invariant.2 c.loop-k-test.true (c.is_kept.ensures c.if-is_kept.true) c.kind_at-then-is_kept.ensures c.payload_at-then-is_kept.ensures.0 c.put-then-is_kept.ensures c.children_at.ensures.0 c.children_at.ensures.1 refl)
+    (c.copy_word-then-is_kept.auto.out ∙ l.invariant.0, omega (arith, l.invariant.1, c.copy_word-then-is_kept.ensures.end), keeping_kept l.invariant.2 c.loop-k-test.true (c.is_kept.ensures c.if-is_kept.true) (word_kind c.args.ws.now l.v.at c.word_at-then-is_kept.ensures) (word_payload c.args.ws.now l.v.at c.word_at-then-is_kept.ensures) c.copy_word-then-is_kept.ensures c.children_at.ensures.0 c.children_at.ensures.1 refl)
 
 pub kept-loop-k-preserved-then-noted : goal.kept-loop-k-preserved-then-noted
 kept-loop-k-preserved-then-noted t c =
@@ -592,19 +591,6 @@ kept-loop-k-smaller-then-noted t c =
     let f = keeping_asks l.invariant.2 c.loop-k-test.true in
     omega (arith, c.if-ws-at.false, (note_at _ _ _ f.noted c.if-ws-at.false).place, end_one g.ws.now l.v.at c.if-ws-at.false, end_low g.ws.now (l.v.at + 1) (arity_at g.ws.now l.v.at))
 
-pub kept-put-requires : goal.kept-put-requires
-kept-put-requires t c =
-    let g = c.args in
-    let f = c.requires in
-    (f.0.stack, omega (arith, f.0.fit), kind_small g.ws.now g.w.at c.kind_at.result c.kind_at.ensures (omega (arith, c.shared_slice_known-1.given g.w.at)), c.payload_at.ensures.1)
-
-pub kept-put-requires-then-is_kept : goal.kept-put-requires-then-is_kept
-kept-put-requires-then-is_kept t c =
-    let g = c.args in
-    let l = c.loop-k in
-    let f = keeping_asks l.invariant.2 c.loop-k-test.true in
-    (f.stack, omega (arith, f.fit), kind_small g.ws.now l.v.at c.kind_at-then-is_kept.result c.kind_at-then-is_kept.ensures (omega (arith, c.shared_slice_known-1.given l.v.at)), c.payload_at-then-is_kept.ensures.1)
-
 pub kept-record-v-requires : goal.kept-record-v-requires
 kept-record-v-requires t c =
     let l = c.loop-k in
@@ -615,20 +601,20 @@ pub kept-returns : goal.kept-returns
 kept-returns t c =
     let g = c.args in
     let f = c.requires in
-    emit_kept g.ws.now g.w.at g.a g.w.state g.c f.2 c.kind_at.result c.payload_at.result c.children_at-k.result c.kind_at.ensures c.payload_at.ensures.0 c.children_at-k.ensures.0 c.put.ensures (keeping_all c.loop-k.invariant.2 (omega (arith, c.loop-k-test.false)) c.loop-k.v.count)
+    emit_kept g.ws.now g.w.at g.a g.w.state g.c f.2 (kind_of c.word_at.result) (payload_of c.word_at.result) c.children_at-k.result (word_kind g.ws.now g.w.at c.word_at.ensures) (word_payload g.ws.now g.w.at c.word_at.ensures) c.children_at-k.ensures.0 c.copy_word.ensures (keeping_all c.loop-k.invariant.2 (omega (arith, c.loop-k-test.false)) c.loop-k.v.count)
 
 pub kept-returns-then-ws-at : goal.kept-returns-then-ws-at
 kept-returns-then-ws-at t c =
     let g = c.args in
     let f = c.requires in
-    emit_kept g.ws.now g.w.at g.a g.w.state g.c f.2 c.kind_at.result c.payload_at.result c.children_at-k.result c.kind_at.ensures c.payload_at.ensures.0 c.children_at-k.ensures.0 c.put.ensures (keeping_past c.loop-k.invariant.2 c.if-ws-at.true c.loop-k.v.count)
+    emit_kept g.ws.now g.w.at g.a g.w.state g.c f.2 (kind_of c.word_at.result) (payload_of c.word_at.result) c.children_at-k.result (word_kind g.ws.now g.w.at c.word_at.ensures) (word_payload g.ws.now g.w.at c.word_at.ensures) c.children_at-k.ensures.0 c.copy_word.ensures (keeping_past c.loop-k.invariant.2 c.if-ws-at.true c.loop-k.v.count)
 
-pub list-put-requires : goal.list-put-requires
-list-put-requires t c =
+pub list-put_as-requires : goal.list-put_as-requires
+list-put_as-requires t c =
     let g = c.args in
     let f = c.requires in
     let y = c.records-r.ensures in
-    (f.0.stack, omega (arith, f.0.fit), kind_small g.ws.now g.w.at c.kind_at.result c.kind_at.ensures (omega (arith, c.shared_slice_known-1.given g.w.at)), omega (arith, f.0.fit, y.number, ap (λ (j : ℕ). size (here_at g.ws.now (g.w.at + 1) j g.a g.w.state)) c.children_at.ensures.0, count_size (here_at g.ws.now (g.w.at + 1) c.children_at.result g.a g.w.state), list_size g.ws.now g.w.at g.a g.w.state g.c f.2 f.3))
+    (f.0.stack, omega (arith, f.0.fit), omega (arith, f.0.fit, y.number, ap (λ (j : ℕ). size (here_at g.ws.now (g.w.at + 1) j g.a g.w.state)) c.children_at.ensures.0, count_size (here_at g.ws.now (g.w.at + 1) c.children_at.result g.a g.w.state), list_size g.ws.now g.w.at g.a g.w.state g.c f.2 f.3))
 
 pub list-records-r-requires : goal.list-records-r-requires
 list-records-r-requires t c =
@@ -648,7 +634,7 @@ pub list-returns : goal.list-returns
 list-returns t c =
     let g = c.args in
     let f = c.requires in
-    emit_list g.ws.now g.w.at g.a g.w.state g.c f.2 c.kind_at.result c.children_at.result f.3 c.kind_at.ensures c.children_at.ensures.0 c.records-r.ensures c.put.ensures
+    emit_list g.ws.now g.w.at g.a g.w.state g.c f.2 (kind_of c.word_at.result) c.children_at.result f.3 (word_kind g.ws.now g.w.at c.word_at.ensures) c.children_at.ensures.0 c.records-r.ensures c.put_as.ensures
 
 pub member-count_record-d-requires : goal.member-count_record-d-requires
 member-count_record-d-requires t c =
@@ -662,7 +648,7 @@ pub member-key_assignment-p3-requires : goal.member-key_assignment-p3-requires
 member-key_assignment-p3-requires t c =
     let p = c.requires in
     let x = c.count_record-whole.ensures in
-    (p.0.stack, omega (arith, p.0.fit, member_length p.0 p.2 p.3 x, c.put-p1.ensures.end, c.put-p2.ensures.end), omega (arith, (ready_behind p.0.ready x).room), key_least p.0 p.2 p.3 x, p.0.ready.planned, p.2, p.3, omega (arith, p.2, p.0.ready.few))
+    (p.0.stack, omega (arith, p.0.fit, member_length p.0 p.2 p.3 x, c.copy_word-p1.ensures.end, c.put-p2.ensures.end), omega (arith, (ready_behind p.0.ready x).room), key_least p.0 p.2 p.3 x, p.0.ready.planned, p.2, p.3, omega (arith, p.2, p.0.ready.few))
 
 pub member-overflow_sub-n : goal.member-overflow_sub-n
 member-overflow_sub-n t c =
@@ -675,8 +661,8 @@ member-overflow_sub-n-2 t c =
     let p = c.requires in
     let x = c.count_record-d.ensures in
     let z = member_length p.0 p.2 p.3 c.count_record-whole.ensures in
-    let b = asks_words p.0 c.key_assignment-p3.result (length (behind_words g.ws.now g.w.at g.a g.w.state g.c)) (omega (arith, p.0.fit, z, c.put-p1.ensures.end, c.put-p2.ensures.end, c.key_assignment-p3.ensures.end)) in
-    let k = sym c.kind_at-kind.ensures ∙ c.if-kind-ne30.false in
+    let b = asks_words p.0 c.key_assignment-p3.result (length (behind_words g.ws.now g.w.at g.a g.w.state g.c)) (omega (arith, p.0.fit, z, c.copy_word-p1.ensures.end, c.put-p2.ensures.end, c.key_assignment-p3.ensures.end)) in
+    let k : (label_at g.ws.now g.w.at).kind ≡ 30 = eqb-true _ 30 (sym c.is_kind_at.ensures ∙ c.if-not-is_kind_at.false) in
     omega (arith, method_three g.ws.now g.w.at g.a g.w.state g.c x _ c.children_at-n.ensures.0 k b p.2)
 
 pub member-parameters-q-requires : goal.member-parameters-q-requires
@@ -685,16 +671,11 @@ member-parameters-q-requires t c =
     let p = c.requires in
     let x = c.count_record-d.ensures in
     let z = member_length p.0 p.2 p.3 c.count_record-whole.ensures in
-    let b = asks_words p.0 c.key_assignment-p3.result (length (behind_words g.ws.now g.w.at g.a g.w.state g.c)) (omega (arith, p.0.fit, z, c.put-p1.ensures.end, c.put-p2.ensures.end, c.key_assignment-p3.ensures.end)) in
-    let k = sym c.kind_at-kind.ensures ∙ c.if-kind-ne30.false in
+    let b = asks_words p.0 c.key_assignment-p3.result (length (behind_words g.ws.now g.w.at g.a g.w.state g.c)) (omega (arith, p.0.fit, z, c.copy_word-p1.ensures.end, c.put-p2.ensures.end, c.key_assignment-p3.ensures.end)) in
+    let k = eqb-true _ 30 (sym c.is_kind_at.ensures ∙ c.if-not-is_kind_at.false) in
     let y = c.records-key.ensures in
     let h = called_place g.ws.now g.w.at g.a g.w.state g.c x _ c.children_at-n.ensures.0 k b p.2 y in
     (omega (arith, p.2, counts_on x, called_on g.ws.now g.w.at g.a g.w.state g.c x _ c.children_at-n.ensures.0 k b p.2 y), (asks_called g.ws.now g.w.at g.a g.w.state g.c x _ c.children_at-n.ensures.0 k b p.2 y, h.0, h.1))
-
-pub member-put-p1-requires : goal.member-put-p1-requires
-member-put-p1-requires t c =
-    let p = c.requires in
-    (p.0.stack, omega (arith, p.0.fit), omega (arith, c.kind_at-kind.ensures, element_small _ p.3), c.payload_at.ensures.1)
 
 pub member-records-key-requires : goal.member-records-key-requires
 member-records-key-requires t c =
@@ -702,8 +683,8 @@ member-records-key-requires t c =
     let p = c.requires in
     let x = c.count_record-d.ensures in
     let z = member_length p.0 p.2 p.3 c.count_record-whole.ensures in
-    let b = asks_words p.0 c.key_assignment-p3.result (length (behind_words g.ws.now g.w.at g.a g.w.state g.c)) (omega (arith, p.0.fit, z, c.put-p1.ensures.end, c.put-p2.ensures.end, c.key_assignment-p3.ensures.end)) in
-    let k = sym c.kind_at-kind.ensures ∙ c.if-kind-ne30.false in
+    let b = asks_words p.0 c.key_assignment-p3.result (length (behind_words g.ws.now g.w.at g.a g.w.state g.c)) (omega (arith, p.0.fit, z, c.copy_word-p1.ensures.end, c.put-p2.ensures.end, c.key_assignment-p3.ensures.end)) in
+    let k = eqb-true _ 30 (sym c.is_kind_at.ensures ∙ c.if-not-is_kind_at.false) in
     (omega (arith, p.2, counts_on x), (asks_key g.ws.now g.w.at g.a g.w.state g.c x _ c.children_at-n.ensures.0 k b p.2, omega arith, omega (arith, p.2, counts_on x)))
 
 pub member-records-r-requires : goal.member-records-r-requires
@@ -712,9 +693,9 @@ member-records-r-requires t c =
     let p = c.requires in
     let x = c.count_record-d.ensures in
     let z = member_length p.0 p.2 p.3 c.count_record-whole.ensures in
-    let b = asks_words p.0 c.key_assignment-p3.result (length (behind_words g.ws.now g.w.at g.a g.w.state g.c)) (omega (arith, p.0.fit, z, c.put-p1.ensures.end, c.put-p2.ensures.end, c.key_assignment-p3.ensures.end)) in
+    let b = asks_words p.0 c.key_assignment-p3.result (length (behind_words g.ws.now g.w.at g.a g.w.state g.c)) (omega (arith, p.0.fit, z, c.copy_word-p1.ensures.end, c.put-p2.ensures.end, c.key_assignment-p3.ensures.end)) in
     let y = (element_keyed _ _ p.0.ready.whole p.2 p.3).marked.count in
-    (omega (arith, p.2, counts_on x), (asks_field g.ws.now g.w.at g.a g.w.state g.c x _ c.children_at-n.ensures.0 b p.2 (λ k. c.if-kind-ne30.true (c.kind_at-kind.ensures ∙ k)) (omega (arith, c.children_at-n.ensures.0, y)), omega arith, omega (arith, p.2, counts_on x)))
+    (omega (arith, p.2, counts_on x), (asks_field g.ws.now g.w.at g.a g.w.state g.c x _ c.children_at-n.ensures.0 b p.2 (eqb-false _ 30 (sym c.is_kind_at.ensures ∙ c.if-not-is_kind_at.true)) (omega (arith, c.children_at-n.ensures.0, y)), omega arith, omega (arith, p.2, counts_on x)))
 
 pub member-records-r-requires-2 : goal.member-records-r-requires-2
 member-records-r-requires-2 t c =
@@ -722,8 +703,8 @@ member-records-r-requires-2 t c =
     let p = c.requires in
     let x = c.count_record-d.ensures in
     let z = member_length p.0 p.2 p.3 c.count_record-whole.ensures in
-    let b = asks_words p.0 c.key_assignment-p3.result (length (behind_words g.ws.now g.w.at g.a g.w.state g.c)) (omega (arith, p.0.fit, z, c.put-p1.ensures.end, c.put-p2.ensures.end, c.key_assignment-p3.ensures.end)) in
-    let k = sym c.kind_at-kind.ensures ∙ c.if-kind-ne30.false in
+    let b = asks_words p.0 c.key_assignment-p3.result (length (behind_words g.ws.now g.w.at g.a g.w.state g.c)) (omega (arith, p.0.fit, z, c.copy_word-p1.ensures.end, c.put-p2.ensures.end, c.key_assignment-p3.ensures.end)) in
+    let k = eqb-true _ 30 (sym c.is_kind_at.ensures ∙ c.if-not-is_kind_at.false) in
     let y = c.records-key.ensures in
     let z = c.parameters-q.ensures in
     let on = rest_on g.ws.now g.w.at g.a g.w.state g.c x _ c.children_at-n.ensures.0 k b p.2 y z in
@@ -735,16 +716,16 @@ member-returns t c =
     let p = c.requires in
     let x = c.count_record-d.ensures in
     let z = member_length p.0 p.2 p.3 c.count_record-whole.ensures in
-    let b = asks_words p.0 c.key_assignment-p3.result (length (behind_words g.ws.now g.w.at g.a g.w.state g.c)) (omega (arith, p.0.fit, z, c.put-p1.ensures.end, c.put-p2.ensures.end, c.key_assignment-p3.ensures.end)) in
-    let k = sym c.kind_at-kind.ensures ∙ c.if-kind-ne30.false in
-    (moved_member p.0 p.2 p.3 c.count_record-whole.ensures _ _ _ _ c.kind_at-kind.ensures c.payload_at.ensures.0 c.put-p1.ensures c.put-p2.ensures c.key_assignment-p3.ensures (wrote_method g.ws.now g.w.at g.a g.w.state g.c x _ c.children_at-n.ensures.0 k b p.2 c.records-key.ensures c.parameters-q.ensures c.records-r-2.ensures), refl)
+    let b = asks_words p.0 c.key_assignment-p3.result (length (behind_words g.ws.now g.w.at g.a g.w.state g.c)) (omega (arith, p.0.fit, z, c.copy_word-p1.ensures.end, c.put-p2.ensures.end, c.key_assignment-p3.ensures.end)) in
+    let k = eqb-true _ 30 (sym c.is_kind_at.ensures ∙ c.if-not-is_kind_at.false) in
+    (moved_member p.0 p.2 p.3 c.count_record-whole.ensures _ _ _ _ (word_kind g.ws.now g.w.at c.word_at.ensures) (word_payload g.ws.now g.w.at c.word_at.ensures) c.copy_word-p1.ensures c.put-p2.ensures c.key_assignment-p3.ensures (wrote_method g.ws.now g.w.at g.a g.w.state g.c x _ c.children_at-n.ensures.0 k b p.2 c.records-key.ensures c.parameters-q.ensures c.records-r-2.ensures), refl)
 
-pub member-returns-then-kind-ne30 : goal.member-returns-then-kind-ne30
-member-returns-then-kind-ne30 t c =
+pub member-returns-then-not-is_kind_at : goal.member-returns-then-not-is_kind_at
+member-returns-then-not-is_kind_at t c =
     let g = c.args in
     let p = c.requires in
     let x = c.count_record-d.ensures in
-    (moved_member p.0 p.2 p.3 c.count_record-whole.ensures _ _ _ _ c.kind_at-kind.ensures c.payload_at.ensures.0 c.put-p1.ensures c.put-p2.ensures c.key_assignment-p3.ensures (wrote_field g.ws.now g.w.at g.a g.w.state g.c x _ c.children_at-n.ensures.0 (λ k. c.if-kind-ne30.true (c.kind_at-kind.ensures ∙ k)) c.records-r.ensures), refl)
+    (moved_member p.0 p.2 p.3 c.count_record-whole.ensures _ _ _ _ (word_kind g.ws.now g.w.at c.word_at.ensures) (word_payload g.ws.now g.w.at c.word_at.ensures) c.copy_word-p1.ensures c.put-p2.ensures c.key_assignment-p3.ensures (wrote_field g.ws.now g.w.at g.a g.w.state g.c x _ c.children_at-n.ensures.0 (eqb-false _ 30 (sym c.is_kind_at.ensures ∙ c.if-not-is_kind_at.true)) c.records-r.ensures), refl)
 
 pub parameters-count_record-d-requires : goal.parameters-count_record-d-requires
 parameters-count_record-d-requires t c =
@@ -811,7 +792,7 @@ parameters-put-p1-requires t c =
     let h = parameter_place g.ws.now g.w.at g.a g.w.state g.c p.0 p.1 l.counter _ x p.2 b in
     let f = asks_parameter g.ws.now g.w.at g.a g.w.state g.c p.0 p.1 l.counter _ x b c.put.ensures.end in
     let w = p.0.ready.whole in
-    (f.stack, omega (arith, f.fit), omega arith, c.payload_at-in-loop.ensures.1)
+    (f.stack, omega (arith, f.fit), c.payload_at-in-loop.ensures.1)
 
 pub parameters-put-p2-requires : goal.parameters-put-p2-requires
 parameters-put-p2-requires t c =
@@ -823,7 +804,7 @@ parameters-put-p2-requires t c =
     let h = parameter_place g.ws.now g.w.at g.a g.w.state g.c p.0 p.1 l.counter _ x p.2 b in
     let f = asks_parameter g.ws.now g.w.at g.a g.w.state g.c p.0 p.1 l.counter _ x b c.put.ensures.end in
     let w = p.0.ready.whole in
-    (f.stack, omega (arith, parameter_room g.ws.now l.v.at g.a l.v.state g.c w h.0 h.1 c.count_record-d.ensures _ refl f, c.put-p1.ensures.end), omega arith, omega arith)
+    (f.stack, omega (arith, parameter_room g.ws.now l.v.at g.a l.v.state g.c w h.0 h.1 c.count_record-d.ensures _ refl f, c.put-p1.ensures.end), omega arith)
 
 pub parameters-records-v-requires : goal.parameters-records-v-requires
 parameters-records-v-requires t c =

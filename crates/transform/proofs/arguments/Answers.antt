@@ -1,8 +1,8 @@
 -- `arguments`: four words at most.
-use mathlib.Core.Path.{ap, sym, ◌∙◌, subst}
+use mathlib.Core.Path.{ap, sym, ◌∙◌}
 use mathlib.Core.Bool.{cond}
 use mathlib.Core.List.{[], ◌∷◌}
-use Prim.Native.Nat.{ℕ, ◌<◌}
+use Prim.Native.Nat.{ℕ}
 use native.Mathlib.Omega.{arith}
 use lib.Dec.{eqb}
 use Rattle.words.specs.Word.{bit0}
@@ -10,7 +10,8 @@ use Rattle.records.specs.Label.{bit, is}
 use Rattle.output.specs.Overlay.{wrote_then}
 use Rattle.walk_laws.specs.Calls.{argument_words, prefix_words}
 use Rattle.transform.specs.Contract.{word_below}
-use Rattle.transform.specs.Leaves.{descriptor_lt, prefix_length, symbol_is, wrote_as}
+use Rattle.transform.specs.Leaves.{prefix_length, symbol_is, wrote_as}
+use Rattle.transform.specs.StepsRecords.{word_kind}
 use Rattle.transform.proofs.arguments.Goals as goal
 
 pub get_name_of_property_key-p2-requires : goal.get_name_of_property_key-p2-requires
@@ -22,7 +23,6 @@ pub put-requires : goal.put-requires
 put-requires c = (
   c.requires.0,
   omega (arith, c.get_name_of_property_key-p2.ensures.end, c.get_class_member_prefix-p1.ensures.end, prefix_length (word_below c.args.c) 0 c.unwrap.result (eqb (bit0 c.payload_at.result) 1), c.requires.1),
-  subst (λ (n : ℕ). n < 64) (sym c.descriptor.ensures) (descriptor_lt (eqb c.kind_at.result 31)),
   omega arith,
 )
 
@@ -34,4 +34,4 @@ returns c =
     wrote_then
     (wrote_as (ap (λ (p : ℕ). prefix_words w (eqb (bit0 p) 1) c.unwrap.result) c.payload_at.ensures.0 ∙ ap (prefix_words w _) (sym symbol)) c.get_class_member_prefix-p1.ensures)
     (wrote_then c.get_name_of_property_key-p2.ensures
-    (wrote_as (ap (λ (k : ℕ). w k 0 ∷ []) (c.descriptor.ensures ∙ ap (λ (k : ℕ). cond (eqb k 31) 14 13) c.kind_at.ensures)) c.put.ensures))
+    (wrote_as (ap (λ (k : ℕ). w k 0 ∷ []) (c.descriptor.ensures ∙ ap (λ (k : ℕ). cond (eqb k 31) 14 13) (word_kind c.args.ws.now c.args.at c.word_at.ensures))) c.put.ensures))

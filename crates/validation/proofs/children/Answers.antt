@@ -1,7 +1,9 @@
 -- `children`: an arm for each kind, by its row of the table.
-use Rattle.std.proofs.Common.{◌++◌, [], ◌-◌, ℕ, sym, ap, ◌∙◌, replicate, append-nil}
+use Rattle.std.proofs.Common.{◌++◌, [], ◌-◌, ℕ, refl, sym, ap, ◌∙◌, replicate, append-nil, arith}
 use Rattle.words.specs.Table.{lookup}
 use Rattle.words.specs.Word.{kind_of, payload_of, bit0, bit1, bit2}
+use Rattle.words.specs.Kinds.{number, number_other}
+use Rattle.words.specs.declared.kinds.Kind.TheVariants.{Module, ClassStatement, ClassExpression, Function, Class, Body, Method, Property, AbstractAccessor, Parameters, Parameter}
 use Rattle.grammar.specs.Grammar.{row, table, row_of, expression}
 use Rattle.grammar.specs.Slots.{slot_of}
 use Rattle.grammar.specs.Scan.{place, places}
@@ -19,87 +21,89 @@ returns-then-kind_bit-ne0-clause-places g c =
     ∙ ap (◌++ waiting c.args.stack.now) (append-nil _ ∙ below_plain (slot_of c.args.slot) (kind_of c.args.w) (payload_of c.args.w) (65 - c.args.left) c.requires.allowed (λ z. c.if-kind_bit-ne0.true (c.kind_bit.ensures.0 ∙ z)))
 
 pub class_under-requires : goal.class_under-requires
-class_under-requires g c = rw c.payload_of-p.ensures (class_payload (slot_of c.args.slot) (kind_of c.args.w) (payload_of c.args.w) c.requires.allowed (sym c.kind_of.ensures ∙ c.in-4.is))
+class_under-requires g c = rw c.payload_of-p.ensures (class_payload (slot_of c.args.slot) (kind_of c.args.w) (payload_of c.args.w) c.requires.allowed (c.in-Some-ClassStatement.ensures.number ∙ ap number c.in-Some-ClassStatement.field-0-is))
 
 pub parameter_of-requires : goal.parameter_of-requires
 unfolding row_of lookup table row
-parameter_of-requires g c = sym (allowed_row (slot_of c.args.slot) (kind_of c.args.w) (payload_of c.args.w) c.requires.allowed).0 ∙ ap (λ (n : ℕ). (row_of n).category) (sym c.kind_of.ensures ∙ c.in-36.is)
+parameter_of-requires g c = sym (allowed_row (slot_of c.args.slot) (kind_of c.args.w) (payload_of c.args.w) c.requires.allowed).0 ∙ ap (λ (n : ℕ). (row_of n).category) (c.in-Some-Parameters.ensures.number ∙ ap number c.in-Some-Parameters.field-0-is)
 
 pub parameter_decorators-requires : goal.parameter_decorators-requires
 unfolding row_of lookup table row
-parameter_decorators-requires g c = sym (allowed_row (slot_of c.args.slot) (kind_of c.args.w) (payload_of c.args.w) c.requires.allowed).0 ∙ ap (λ (n : ℕ). (row_of n).category) (sym c.kind_of.ensures ∙ c.in-37.is)
+parameter_decorators-requires g c = sym (allowed_row (slot_of c.args.slot) (kind_of c.args.w) (payload_of c.args.w) c.requires.allowed).0 ∙ ap (λ (n : ℕ). (row_of n).category) (c.in-Some-Parameter.ensures.number ∙ ap number c.in-Some-Parameter.field-0-is)
 
-pub returns-in-1-clause-places : goal.returns-in-1-clause-places
+pub returns-in-Some-Module-clause-places : goal.returns-in-Some-Module-clause-places
 unfolding row_of lookup table row places bit0 bit1 bit2
-returns-in-1-clause-places g c =
-    (over_run c.new-in-1-2.ensures (over_push c.new-in-1.ensures c.push.ensures.places over_none)).waits
-    ∙ ap (◌++ waiting c.args.stack.now) (below_kind (slot_of c.args.slot).context c.args.left c.payload_of-p.ensures c.kind_of.ensures 1 c.in-1.is)
+returns-in-Some-Module-clause-places g c =
+    (over_run c.new-in-Some-Module-2.ensures (over_push c.new-in-Some-Module.ensures c.push.ensures.places over_none)).waits
+    ∙ ap (◌++ waiting c.args.stack.now) (below_kind (slot_of c.args.slot).context c.args.left c.payload_of-p.ensures refl 1 (c.in-Some-Module.ensures.number ∙ ap number c.in-Some-Module.field-0-is))
 
-pub returns-in-4-clause-places : goal.returns-in-4-clause-places
+pub returns-in-Some-ClassStatement-clause-places : goal.returns-in-Some-ClassStatement-clause-places
 unfolding row_of lookup table row places bit0 bit1 bit2
-returns-in-4-clause-places g c =
-    (over_run_as c.new-in-4.ensures c.class_under.ensures over_none).waits
-    ∙ ap (◌++ waiting c.args.stack.now) (below_kind (slot_of c.args.slot).context c.args.left c.payload_of-p.ensures c.kind_of.ensures 4 c.in-4.is)
+returns-in-Some-ClassStatement-clause-places g c =
+    (over_run_as c.new-in-Some-ClassStatement.ensures c.class_under.ensures over_none).waits
+    ∙ ap (◌++ waiting c.args.stack.now) (below_kind (slot_of c.args.slot).context c.args.left c.payload_of-p.ensures refl 4 (c.in-Some-ClassStatement.ensures.number ∙ ap number c.in-Some-ClassStatement.field-0-is))
 
-pub returns-in-20-clause-places : goal.returns-in-20-clause-places
+pub returns-in-Some-ClassExpression-clause-places : goal.returns-in-Some-ClassExpression-clause-places
 unfolding row_of lookup table row places bit0 bit1 bit2
-returns-in-20-clause-places g c =
-    (over_run c.new-in-20.ensures over_none).waits
-    ∙ ap (◌++ waiting c.args.stack.now) (below_kind (slot_of c.args.slot).context c.args.left c.payload_of-p.ensures c.kind_of.ensures 20 c.in-20.is)
+returns-in-Some-ClassExpression-clause-places g c =
+    (over_run c.new-in-Some-ClassExpression.ensures over_none).waits
+    ∙ ap (◌++ waiting c.args.stack.now) (below_kind (slot_of c.args.slot).context c.args.left c.payload_of-p.ensures refl 20 (c.in-Some-ClassExpression.ensures.number ∙ ap number c.in-Some-ClassExpression.field-0-is))
 
-pub returns-in-21-clause-places : goal.returns-in-21-clause-places
+pub returns-in-Some-Function-clause-places : goal.returns-in-Some-Function-clause-places
 unfolding row_of lookup table row places bit0 bit1 bit2
-returns-in-21-clause-places g c =
-    (over_run c.new-in-21-2.ensures (over_push c.new-in-21.ensures c.push-in-21.ensures.places over_none)).waits
-    ∙ ap (◌++ waiting c.args.stack.now) (below_kind (slot_of c.args.slot).context c.args.left c.payload_of-p.ensures c.kind_of.ensures 21 c.in-21.is)
+returns-in-Some-Function-clause-places g c =
+    (over_run c.new-in-Some-Function-2.ensures (over_push c.new-in-Some-Function.ensures c.push-in-Some-Function.ensures.places over_none)).waits
+    ∙ ap (◌++ waiting c.args.stack.now) (below_kind (slot_of c.args.slot).context c.args.left c.payload_of-p.ensures refl 21 (c.in-Some-Function.ensures.number ∙ ap number c.in-Some-Function.field-0-is))
 
-pub returns-in-26-clause-places : goal.returns-in-26-clause-places
+pub returns-in-Some-Class-clause-places : goal.returns-in-Some-Class-clause-places
 unfolding row_of lookup table row places bit0 bit1 bit2
-returns-in-26-clause-places g c =
-    (over_run c.new-in-26-4.ensures (over_push c.new-in-26-3.ensures c.push-in-26-3.ensures.places (over_push c.new-in-26-2.ensures c.push-in-26-2.ensures.places (over_push c.new-in-26.ensures c.push-in-26.ensures.places over_none)))).waits
-    ∙ ap (◌++ waiting c.args.stack.now) (below_kind (slot_of c.args.slot).context c.args.left c.payload_of-p.ensures c.kind_of.ensures 26 c.in-26.is)
+returns-in-Some-Class-clause-places g c =
+    (over_run c.new-in-Some-Class-4.ensures (over_push c.new-in-Some-Class-3.ensures c.push-in-Some-Class-3.ensures.places (over_push c.new-in-Some-Class-2.ensures c.push-in-Some-Class-2.ensures.places (over_push c.new-in-Some-Class.ensures c.push-in-Some-Class.ensures.places over_none)))).waits
+    ∙ ap (◌++ waiting c.args.stack.now) (below_kind (slot_of c.args.slot).context c.args.left c.payload_of-p.ensures refl 26 (c.in-Some-Class.ensures.number ∙ ap number c.in-Some-Class.field-0-is))
 
-pub returns-in-29-clause-places : goal.returns-in-29-clause-places
+pub returns-in-Some-Body-clause-places : goal.returns-in-Some-Body-clause-places
 unfolding row_of lookup table row places bit0 bit1 bit2
-returns-in-29-clause-places g c =
-    (over_run c.new-in-29.ensures over_none).waits
-    ∙ ap (◌++ waiting c.args.stack.now) (below_kind (slot_of c.args.slot).context c.args.left c.payload_of-p.ensures c.kind_of.ensures 29 c.in-29.is)
+returns-in-Some-Body-clause-places g c =
+    (over_run c.new-in-Some-Body.ensures over_none).waits
+    ∙ ap (◌++ waiting c.args.stack.now) (below_kind (slot_of c.args.slot).context c.args.left c.payload_of-p.ensures refl 29 (c.in-Some-Body.ensures.number ∙ ap number c.in-Some-Body.field-0-is))
 
-pub returns-in-30-clause-places : goal.returns-in-30-clause-places
+pub returns-in-Some-Method-clause-places : goal.returns-in-Some-Method-clause-places
 unfolding row_of lookup table row places bit0 bit1 bit2
-returns-in-30-clause-places g c =
-    (over_run_as c.new-in-30-4.ensures c.method_decorators.ensures (over_push c.new-in-30-3.ensures c.push-in-30-3.ensures.places (over_push c.new-in-30-2.ensures c.push-in-30-2.ensures.places (over_push c.new-in-30.ensures c.push-in-30.ensures.places over_none)))).waits
-    ∙ ap (◌++ waiting c.args.stack.now) (below_kind (slot_of c.args.slot).context c.args.left c.payload_of-p.ensures c.kind_of.ensures 30 c.in-30.is)
+returns-in-Some-Method-clause-places g c =
+    (over_run_as c.new-in-Some-Method-4.ensures c.method_decorators.ensures (over_push c.new-in-Some-Method-3.ensures c.push-in-Some-Method-3.ensures.places (over_push c.new-in-Some-Method-2.ensures c.push-in-Some-Method-2.ensures.places (over_push c.new-in-Some-Method.ensures c.push-in-Some-Method.ensures.places over_none)))).waits
+    ∙ ap (◌++ waiting c.args.stack.now) (below_kind (slot_of c.args.slot).context c.args.left c.payload_of-p.ensures refl 30 (c.in-Some-Method.ensures.number ∙ ap number c.in-Some-Method.field-0-is))
 
-pub returns-in-31-clause-places : goal.returns-in-31-clause-places
+pub returns-in-Some-Property-clause-places : goal.returns-in-Some-Property-clause-places
 unfolding row_of lookup table row places bit0 bit1 bit2
-returns-in-31-clause-places g c =
-    (over_run c.new-in-31-3.ensures (over_push c.new-in-31-2.ensures c.push-in-31-2.ensures.places (over_push c.new-in-31.ensures c.push-in-31.ensures.places over_none))).waits
-    ∙ ap (◌++ waiting c.args.stack.now) (below_kind (slot_of c.args.slot).context c.args.left c.payload_of-p.ensures c.kind_of.ensures 31 c.in-31.is)
+returns-in-Some-Property-clause-places g c =
+    (over_run c.new-in-Some-Property-3.ensures (over_push c.new-in-Some-Property-2.ensures c.push-in-Some-Property-2.ensures.places (over_push c.new-in-Some-Property.ensures c.push-in-Some-Property.ensures.places over_none))).waits
+    ∙ ap (◌++ waiting c.args.stack.now) (below_kind (slot_of c.args.slot).context c.args.left c.payload_of-p.ensures refl 31 (c.in-Some-Property.ensures.number ∙ ap number c.in-Some-Property.field-0-is))
 
-pub returns-in-32-clause-places : goal.returns-in-32-clause-places
+pub returns-in-Some-AbstractAccessor-clause-places : goal.returns-in-Some-AbstractAccessor-clause-places
 unfolding row_of lookup table row places bit0 bit1 bit2
-returns-in-32-clause-places g c =
-    (over_run c.new-in-32-2.ensures (over_push c.new-in-32.ensures c.push-in-32.ensures.places over_none)).waits
-    ∙ ap (◌++ waiting c.args.stack.now) (below_kind (slot_of c.args.slot).context c.args.left c.payload_of-p.ensures c.kind_of.ensures 32 c.in-32.is)
+returns-in-Some-AbstractAccessor-clause-places g c =
+    (over_run c.new-in-Some-AbstractAccessor-2.ensures (over_push c.new-in-Some-AbstractAccessor.ensures c.push-in-Some-AbstractAccessor.ensures.places over_none)).waits
+    ∙ ap (◌++ waiting c.args.stack.now) (below_kind (slot_of c.args.slot).context c.args.left c.payload_of-p.ensures refl 32 (c.in-Some-AbstractAccessor.ensures.number ∙ ap number c.in-Some-AbstractAccessor.field-0-is))
 
-pub returns-in-36-clause-places : goal.returns-in-36-clause-places
+pub returns-in-Some-Parameters-clause-places : goal.returns-in-Some-Parameters-clause-places
 unfolding row_of lookup table row places bit0 bit1 bit2
-returns-in-36-clause-places g c =
-    (over_run_as c.new-in-36.ensures c.parameter_of.ensures over_none).waits
-    ∙ ap (◌++ waiting c.args.stack.now) (below_kind (slot_of c.args.slot).context c.args.left c.payload_of-p.ensures c.kind_of.ensures 36 c.in-36.is)
+returns-in-Some-Parameters-clause-places g c =
+    (over_run_as c.new-in-Some-Parameters.ensures c.parameter_of.ensures over_none).waits
+    ∙ ap (◌++ waiting c.args.stack.now) (below_kind (slot_of c.args.slot).context c.args.left c.payload_of-p.ensures refl 36 (c.in-Some-Parameters.ensures.number ∙ ap number c.in-Some-Parameters.field-0-is))
 
-pub returns-in-37-clause-places : goal.returns-in-37-clause-places
+pub returns-in-Some-Parameter-clause-places : goal.returns-in-Some-Parameter-clause-places
 unfolding row_of lookup table row places bit0 bit1 bit2
-returns-in-37-clause-places g c =
-    (over_run_as c.new-in-37-2.ensures c.parameter_decorators.ensures (over_push c.new-in-37.ensures c.push-in-37.ensures.places over_none)).waits
-    ∙ ap (◌++ waiting c.args.stack.now) (below_kind (slot_of c.args.slot).context c.args.left c.payload_of-p.ensures c.kind_of.ensures 37 c.in-37.is)
+returns-in-Some-Parameter-clause-places g c =
+    (over_run_as c.new-in-Some-Parameter-2.ensures c.parameter_decorators.ensures (over_push c.new-in-Some-Parameter.ensures c.push-in-Some-Parameter.ensures.places over_none)).waits
+    ∙ ap (◌++ waiting c.args.stack.now) (below_kind (slot_of c.args.slot).context c.args.left c.payload_of-p.ensures refl 37 (c.in-Some-Parameter.ensures.number ∙ ap number c.in-Some-Parameter.field-0-is))
 
 pub returns-in_default-clause-places : goal.returns-in_default-clause-places
 unfolding plain
 returns-in_default-clause-places g c =
-    let r = c.in_default.in_default-own.rest in
     let none = sym c.kind_bit.ensures.0 ∙ c.if-kind_bit-ne0.false in
+    let n = c.of.ensures.named in
     (over_run c.new-in_default.ensures over_none).waits
-    ∙ ap (◌++ waiting c.args.stack.now) (below_other (slot_of c.args.slot).context c.args.left c.payload_of-p.ensures c.kind_of.ensures (slot_of c.args.slot) c.requires.allowed c.requires.some none
-    r.0.0.0.0.0.0.0.0.0.0.1 r.0.0.0.0.0.0.0.0.0.1 r.0.0.0.0.0.0.0.0.1 r.0.0.0.0.0.0.0.1 r.0.0.0.0.0.0.1 r.0.0.0.0.0.1 r.0.0.0.0.1 r.0.0.0.1 r.0.0.1 r.0.1 r.1)
+    ∙ ap (◌++ waiting c.args.stack.now) (below_other (slot_of c.args.slot).context c.args.left c.payload_of-p.ensures refl (slot_of c.args.slot) c.requires.allowed c.requires.some none
+    (number_other Module n (λ s. grind (arith, s))) (number_other ClassStatement n (λ s. grind (arith, s))) (number_other ClassExpression n (λ s. grind (arith, s))) (number_other Function n (λ s. grind (arith, s)))
+    (number_other Class n (λ s. grind (arith, s))) (number_other Body n (λ s. grind (arith, s))) (number_other Method n (λ s. grind (arith, s))) (number_other Property n (λ s. grind (arith, s)))
+    (number_other AbstractAccessor n (λ s. grind (arith, s))) (number_other Parameters n (λ s. grind (arith, s))) (number_other Parameter n (λ s. grind (arith, s))))
