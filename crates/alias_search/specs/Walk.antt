@@ -1,15 +1,17 @@
 -- The search by reader: the laws of its loops over the records that a reader has left, and of its steps into a record. Assumes nothing.
-use Rattle.std.specs.Prelude.{◌≡◌, Bool, ◌&&◌, ◌||◌, not, cond, List, [], ◌⊎◌, eqb, length}
+use Rattle.std.specs.Prelude.{◌≡◌, Bool, ◌&&◌, ◌||◌, not, cond, List, [], eqb, length}
 use Rattle.std.proofs.Math.Path.{refl, ap, sym}
 use Rattle.std.proofs.Common.{◌∙◌, arith}
 use Rattle.std.proofs.Math.Bool.{true, false, or-false}
 use Rattle.std.specs.Option.{option_eq}
 use Rattle.std.specs.declared.option.Option.{Option}
 use Rattle.std.specs.declared.option.Option.TheVariants.{None as none, Some as some}
-use mathlib.Core.Logic.{inl, inr}
 use Prim.Native.Nat.{ℕ, zero, suc, ◌+◌, ◌-◌, ◌<◌, ◌≤◌}
 use borrow.Author.Tests.{eq-eqb, ne_eqb, eqb-true, eqb-false}
 use Rattle.words.specs.Table.{lookup}
+use Rattle.words.specs.Kinds.{named, number_other}
+use Rattle.words.specs.declared.kinds.Kind.{Kind}
+use Rattle.words.specs.declared.kinds.Kind.TheVariants.{ClassStatement, Identifier, Assignment, Method, Property, AbstractAccessor}
 use Rattle.words.specs.Word.{bit1}
 use Rattle.records.specs.Forest.{end, node, take_f}
 use Rattle.records.specs.Label.{Label, Trees, is, bit}
@@ -96,9 +98,13 @@ module _ (c : ℕ) (l : Label) (k : Trees) where
   is_yes n h = eq-eqb l.kind n h
 
   -- neither a 9 or 18 nor a class statement
-  pub no_word : (l.kind ≡ 9 → ⊥) → (l.kind ≡ 18 → ⊥) → (l.kind ≡ 4 → ⊥) → mentions_word c l k ≡ false
+  pub word_apart : (l.kind ≡ 9 → ⊥) → (l.kind ≡ 18 → ⊥) → (l.kind ≡ 4 → ⊥) → mentions_word c l k ≡ false
   unfolding mentions_word is_ref
-  no_word a b d = rw (is_not 9 a, is_not 18 b, is_not 4 d)
+  word_apart a b d = rw (is_not 9 a, is_not 18 b, is_not 4 d)
+
+  -- where the answer is none of the three kinds
+  pub no_word : {o : Option Kind} → o ≡ named l.kind → (o ≡ some Identifier → ⊥) → (o ≡ some Assignment → ⊥) → (o ≡ some ClassStatement → ⊥) → mentions_word c l k ≡ false
+  no_word n a b d = word_apart (number_other Identifier n a) (number_other Assignment n b) (number_other ClassStatement n d)
 
   -- before the first record of a kind, and at it
   pub until_other : (n : ℕ) → (l.kind ≡ n → ⊥) → (part c (until n gone) l k ≡ mentions_record c l k) × (behind (until n gone) l ≡ until n gone)
@@ -107,7 +113,7 @@ module _ (c : ℕ) (l : Label) (k : Trees) where
 
   pub until_here : (n : ℕ) → 18 < n → l.kind ≡ n → (part c (until n gone) l k ≡ false) × (behind (until n gone) l ≡ whole)
   unfolding part searched within behind
-  until_here n g h = (rw (is_yes n h, no_word (λ e. omega arith) (λ e. omega arith) (λ e. omega arith)) (mentions_gone c k), rw (is_yes n h))
+  until_here n g h = (rw (is_yes n h, word_apart (λ e. omega arith) (λ e. omega arith) (λ e. omega arith)) (mentions_gone c k), rw (is_yes n h))
 
   -- at a first child, by whether it is a 28
   lead_not : (x y : Mode) → searched y ≡ true → (l.kind ≡ 28 → ⊥) → (part c (lead x y) l k ≡ part c y l k) × (behind (lead x y) l ≡ behind y l)
@@ -116,7 +122,7 @@ module _ (c : ℕ) (l : Label) (k : Trees) where
 
   lead_yes : (x y : Mode) → l.kind ≡ 28 → (part c (lead x y) l k ≡ mentions_by c x k) × (behind (lead x y) l ≡ y)
   unfolding part searched within behind
-  lead_yes x y h = (rw (is_yes 28 h, no_word (λ e. omega arith) (λ e. omega arith) (λ e. omega arith)), rw (is_yes 28 h))
+  lead_yes x y h = (rw (is_yes 28 h, word_apart (λ e. omega arith) (λ e. omega arith) (λ e. omega arith)), rw (is_yes 28 h))
 
   -- ---- one record
 
@@ -159,12 +165,15 @@ module _ (c : ℕ) (l : Label) (k : Trees) where
   unfolding role_at lookup mode_of
   inner_method h e = by_role method (role_kind 30 l (is_yes 30 h) ∙ ap (role_at 30) (flag_30 h ∙ e))
 
-  pub inner_other : (l.kind ≡ 4 → ⊥) → (l.kind ≡ 30 → ⊥) → (l.kind ≡ 31 → ⊥) → (l.kind ≡ 32 → ⊥) → inner c l k ≡ whole
-  inner_other a b d e = go (is 1 l) refl
+  pub inner_apart : (l.kind ≡ 4 → ⊥) → (l.kind ≡ 30 → ⊥) → (l.kind ≡ 31 → ⊥) → (l.kind ≡ 32 → ⊥) → inner c l k ≡ whole
+  inner_apart a b d e = go (is 1 l) refl
     where
       go : (x : Bool) → is 1 l ≡ x → inner c l k ≡ whole
       go true h = by_role module' (role_kind 1 l h ∙ (unfold role_at lookup in refl)) ∙ (unfold mode_of in refl)
       go false h = unfold inner in kept_mode c (role_of l) k (others l h (is_not 4 a) (is_not 30 b) (is_not 31 d) (is_not 32 e))
+
+  pub inner_other : {o : Option Kind} → o ≡ named l.kind → (o ≡ some ClassStatement → ⊥) → (o ≡ some Method → ⊥) → (o ≡ some Property → ⊥) → (o ≡ some AbstractAccessor → ⊥) → inner c l k ≡ whole
+  inner_other n a b d e = inner_apart (number_other ClassStatement n a) (number_other Method n b) (number_other Property n d) (number_other AbstractAccessor n e)
 
   pub inner_dead : l.kind ≡ 4 → is_live k ≡ false → inner c l k ≡ whole
   unfolding role_at lookup mode_of
@@ -209,8 +218,8 @@ lead_whole c n (node l k r) e = mentions_first c (lead whole (until n gone)) l k
         let other : l.kind ≡ n → ⊥ = λ m. eqb-false 28 n e (sym is28 ∙ m) in
         let b = lead_yes c l k whole (until n gone) is28 in
         let u = until_other c l k n other in
-        let word : mentions_word c l k ≡ false = no_word c l k (λ e. omega arith) (λ e. omega arith) (λ e. omega arith) in
-        let kids : inner c l k ≡ whole = inner_other c l k (λ e. omega arith) (λ e. omega arith) (λ e. omega arith) (λ e. omega arith) in
+        let word : mentions_word c l k ≡ false = word_apart c l k (λ e. omega arith) (λ e. omega arith) (λ e. omega arith) in
+        let kids : inner c l k ≡ whole = inner_apart c l k (λ e. omega arith) (λ e. omega arith) (λ e. omega arith) (λ e. omega arith) in
         rw (b.0, b.1, u.0, u.1) (ap (◌|| mentions_by c (until n gone) r) (sym (record_kids c l k word kids)))
     go false h = let b = lead_not c l k whole (until n gone) refl (eqb-false l.kind 28 (unfold is in h)) in rw (b.0, b.1)
 
@@ -264,7 +273,7 @@ constructor_word : (c : ℕ) (l : Label) (k : Trees) → is_constructor l ≡ tr
 unfolding is_constructor is
 constructor_word c l k h =
     let i : l.kind ≡ 30 = eqb-true l.kind 30 (and_left (is 30 l) (bit bit1 l) h) in
-    no_word c l k (λ e. omega arith) (λ e. omega arith) (λ e. omega arith)
+    word_apart c l k (λ e. omega arith) (λ e. omega arith) (λ e. omega arith)
 
 module _ (c : ℕ) (y : Mode) (l : Label) (k : Trees) where
   -- a constructor, and any other element before it
@@ -317,17 +326,13 @@ module _ (c : ℕ) (rk : Trees) where
 -- ---- a record's own word
 
 module _ (c : ℕ) (l : Label) (k : Trees) where
-  word_9 : l.kind ≡ 9 → mentions_word c l k ≡ eqb l.payload c
+  pub word_9 : l.kind ≡ 9 → mentions_word c l k ≡ eqb l.payload c
   unfolding mentions_word is_ref
   word_9 h = rw (is_yes c l k 9 h, is_not c l k 4 (λ e. omega arith), or-false)
 
-  word_18 : l.kind ≡ 18 → mentions_word c l k ≡ eqb l.payload c
+  pub word_18 : l.kind ≡ 18 → mentions_word c l k ≡ eqb l.payload c
   unfolding mentions_word is_ref
   word_18 h = rw (is_yes c l k 18 h, is_not c l k 9 (λ e. omega arith), is_not c l k 4 (λ e. omega arith), or-false)
-
-  pub word_named : (l.kind ≡ 9) ⊎ (l.kind ≡ 18) → mentions_word c l k ≡ eqb l.payload c
-  word_named (inl h) = word_9 h
-  word_named (inr h) = word_18 h
 
   pub word_4 : l.kind ≡ 4 → mentions_word c l k ≡ (is_live k && names c (class_kids k))
   unfolding mentions_word is_ref
@@ -336,6 +341,9 @@ module _ (c : ℕ) (l : Label) (k : Trees) where
 -- ---- the class statement at `at`
 
 module _ (c : ℕ) (ws : List ℕ) (at : ℕ) (h : (label_at ws at).kind ≡ 4) where
+  pub statement_within : at < length ws
+  statement_within = kind_within ws at 3 h
+
   pub statement_word : mentions_word c (label_at ws at) (kids_at ws at) ≡ (is_live (take_f 1 (records_at ws (at + 1))) && names c (kids_at ws (at + 1)))
   statement_word = word_4 c (label_at ws at) (kids_at ws at) h ∙ rw (class_kids_lem ws at h, class_row ws at h)
 

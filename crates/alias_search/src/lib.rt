@@ -1,8 +1,9 @@
-// Rule 6's search, by the words as read: does 9:C or 18:C stand in what some records become? No state, no alias and no output is needed for it.
-// Rows of records are readers; one record is its place beside the words and their notes, since nothing is read behind it.
+// Rule 6's search, by the words as read: does an identifier or an assignment of the symbol C stand in what some records become? No state, no alias and
+// no output is needed for it. Rows of records are readers; one record is its place beside the words and their notes, since nothing is read behind it.
 #![tactic(auto)]
 
 ghost use Rattle.std.specs.Prelude.{◌≡◌, cond, ◌&&◌, ◌<◌, length};
+ghost use Rattle.words.specs.declared.kinds.Kind.TheVariants.{ClassStatement, Method};
 ghost use Rattle.words.specs.Kinds.{number};
 ghost use Rattle.records.specs.Ends.{Ends};
 ghost use Rattle.records.specs.Place.{label_at, kids_at};
@@ -54,7 +55,8 @@ fn mentions_record(ws: &[u32], notes: &[Note], at: usize, c: u32) -> bool
     }
 }
 
-// Is the record at `at` such a 9 or 18, or a class statement whose calls or assignment name the class by c?
+// Is the record at `at` such an identifier or assignment, or a class statement whose calls or assignment name the class by c?
+#[tactic(auto, using(crate::specs::Walk::statement_word, crate::specs::Walk::word_9, crate::specs::Walk::word_18, crate::specs::Walk::no_word, crate::specs::Walk::statement_within))]
 fn mentions_word(ws: &[u32], notes: &[Note], at: usize, c: u32) -> bool
     requires { Ends ws.now notes.now 0 }
     ensures { result ≡ mentions_word c (label_at ws.now at) (kids_at ws.now at) }
@@ -69,6 +71,7 @@ fn mentions_word(ws: &[u32], notes: &[Note], at: usize, c: u32) -> bool
 }
 
 // Has the live class at `at` the id c, and a call or an assignment to name it?
+#[tactic(auto, using(crate::specs::Walk::names_counted, inspect::specs::Reads::reads_rest))]
 fn names(ws: &[u32], notes: &[Note], at: usize, c: u32) -> bool
     requires { Ends ws.now notes.now 0 }
     ensures { result ≡ names c (kids_at ws.now at) }
@@ -76,8 +79,7 @@ fn names(ws: &[u32], notes: &[Note], at: usize, c: u32) -> bool
     if !is_named(ws, notes, at, c) {
         return false;
     }
-    let members = inspect::elements(ws, notes, at);
-    inspect::call_count(ws, notes, members.at, members.left) != 0
+    inspect::elements(ws, notes, at).call_count() != 0
         || inspect::check_class_has_decorated(ws, notes, at)
             && !inspect::has_private_in_expression(ws, notes, at)
 }
@@ -108,7 +110,7 @@ fn undecorated<'a>(ws: &'a [u32], notes: &'a [Note], at: usize) -> Reader<'a>
 // In the children of the constructor at `at`, or of the method, without its decorators and its parameters'.
 #[cycle(mentions)]
 fn method(ws: &[u32], notes: &[Note], at: usize, c: u32) -> bool
-    requires { Ends ws.now notes.now 0 × ((at < length ws.now) × ((label_at ws.now at).kind ≡ 30)) }
+    requires { Ends ws.now notes.now 0 × ((at < length ws.now) × ((label_at ws.now at).kind ≡ number Method)) }
     ensures { result ≡ mentions_by c (inner c (label_at ws.now at) (kids_at ws.now at)) (kids_at ws.now at) }
 {
     if inspect::is_constructor_at(ws, at) {
@@ -174,7 +176,7 @@ fn but_first(mut records: Reader, kind: Kind, c: u32) -> bool
 // In the class of the statement at `at`, and in all that a live one puts behind itself but its own symbol.
 #[cycle(mentions)]
 fn class_statement(ws: &[u32], notes: &[Note], at: usize, c: u32) -> bool
-    requires { Ends ws.now notes.now 0 × ((at < length ws.now) × ((label_at ws.now at).kind ≡ 4)) }
+    requires { Ends ws.now notes.now 0 × ((at < length ws.now) × ((label_at ws.now at).kind ≡ number ClassStatement)) }
     ensures { result ≡ mentions_by c (inner c (label_at ws.now at) (kids_at ws.now at)) (kids_at ws.now at) }
 {
     if !inspect::is_live(ws, at + 1) {

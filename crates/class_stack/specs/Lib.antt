@@ -1,2 +1,3 @@
 pub mod Renaming
+pub mod Stack
 pub mod Entries

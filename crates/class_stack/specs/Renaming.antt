@@ -4,10 +4,9 @@ use mathlib.Core.Logic.{inl, inr}
 use borrow.Author.Tests.{ne_eqb}
 use Rattle.std.proofs.Math.Path.{refl, ap}
 use Rattle.std.proofs.Common.{sym, ◌∙◌}
-use Rattle.words.specs.Word.{word_of}
-use Rattle.records.specs.Label.{Label, repay, is, word_at, ◌∶◌}
+use Rattle.words.specs.Word.{kind_of, payload_of, word_of, word_split, kind_of_lem, payload_of_lem}
+use Rattle.records.specs.Label.{Label, repay, is, word_at, read_at, ◌∶◌}
 use Rattle.rewriting.specs.Visit.{is_ref, to_alias}
-use Rattle.class_stack.specs.declared.ClassStack.{ClassStack}
 
 -- a class's symbol, and the alias that replaces it
 pub record Sub : Type 0 where
@@ -25,9 +24,6 @@ unfoldable pub entries : List ℕ → List ℕ → ℕ → List Sub
 entries symbols aliases zero = []
 entries symbols aliases (suc n) = record { symbol = get_or symbols n 0; alias = get_or aliases n 0 } ∷ entries symbols aliases n
 
-abbrev pub subs : ClassStack → List Sub
-subs s = entries s.symbols s.aliases s.depth
-
 -- how many classes deep: the length of the arrays
 abbrev pub capacity : ℕ
 capacity = 16
@@ -37,11 +33,11 @@ pub record Payloads (l : List ℕ) : Type 0 where
   pub len : length l ≡ capacity
   pub small : (i : ℕ) → get_or l i 0 < 67108864
 
--- a class stack that can be used
-pub record Ready (s : ClassStack) : Type 0 where
-  pub room : s.depth ≤ capacity
-  pub symbols : Payloads s.symbols
-  pub aliases : Payloads s.aliases
+-- the arrays of a stack, so many classes deep
+pub record Usable (all_symbols all_aliases : List ℕ) (depth : ℕ) : Type 0 where
+  pub room : depth ≤ capacity
+  pub symbols : Payloads all_symbols
+  pub aliases : Payloads all_aliases
 
 -- ---- payloads
 
@@ -82,18 +78,43 @@ unfolding rename_l
 rename_other [] l e = refl
 rename_other (s ∷ ss) l e = let t : to_alias s.symbol s.alias l ≡ l = unfold to_alias is_ref in rw e in ap (rename_l ss) t ∙ rename_other ss l e
 
--- the word of a label under the classes around, by its kind and payload
-module _ (ss : List Sub) (k p : ℕ) where
-  pub word_ref : (k ≡ 9) ⊎ (k ≡ 18) → word_of k (rename_p ss p) ≡ word_at (rename_l ss (k ∶ p))
-  unfolding is ◌∶◌ word_at repay
-  word_ref e = ap word_at (sym (rename_ref ss (k ∶ p) (go e)))
+-- a word under no class
+pub word_none : (w : ℕ) → w ≡ word_at (rename_l [] (read_at 0 w))
+unfolding rename_l read_at word_at
+word_none w = sym (word_split w)
+
+-- a word under the classes around, by its kind
+module _ (ss : List Sub) (w : ℕ) where
+  pub word_ref : (kind_of w ≡ 9) ⊎ (kind_of w ≡ 18) → word_of (kind_of w) (rename_p ss (payload_of w)) ≡ word_at (rename_l ss (read_at 0 w))
+  unfolding is read_at word_at repay
+  word_ref e = ap word_at (sym (rename_ref ss (read_at 0 w) (go e)))
     where
-      go : (k ≡ 9) ⊎ (k ≡ 18) → (is 9 (k ∶ p) || is 18 (k ∶ p)) ≡ true
+      go : (kind_of w ≡ 9) ⊎ (kind_of w ≡ 18) → (is 9 (read_at 0 w) || is 18 (read_at 0 w)) ≡ true
       go (inl e) = rw e
       go (inr e) = rw e
 
-  pub word_other : (k ≡ 9 → ⊥) → (k ≡ 18 → ⊥) → word_of k p ≡ word_at (rename_l ss (k ∶ p))
-  unfolding is ◌∶◌ word_at
+  pub word_other : (kind_of w ≡ 9 → ⊥) → (kind_of w ≡ 18 → ⊥) → w ≡ word_at (rename_l ss (read_at 0 w))
+  unfolding is read_at word_at
   word_other a b =
-      let t : (is 9 (k ∶ p) || is 18 (k ∶ p)) ≡ false = rw (ne_eqb k 9 a, ne_eqb k 18 b) in
-      ap word_at (sym (rename_other ss (k ∶ p) t))
+      let t : (is 9 (read_at 0 w) || is 18 (read_at 0 w)) ≡ false = rw (ne_eqb (kind_of w) 9 a, ne_eqb (kind_of w) 18 b) in
+      sym (word_split w) ∙ ap word_at (sym (rename_other ss (read_at 0 w) t))
+
+label_same : (l m : Label) → l.kind ≡ m.kind → (is 9 l || is 18 l) ≡ (is 9 m || is 18 m)
+unfolding is
+label_same l m e = rw e
+
+-- where a word was read doesn't count: of a kind and payload
+label_word : (ss : List Sub) (l m : Label) → l.kind ≡ m.kind → l.payload ≡ m.payload → word_at (rename_l ss l) ≡ word_at (rename_l ss m)
+unfolding word_at repay
+label_word ss l m e g = go (is 9 l || is 18 l) refl
+  where
+    go : (b : Bool) → (is 9 l || is 18 l) ≡ b → word_at (rename_l ss l) ≡ word_at (rename_l ss m)
+    go true b = rw (rename_ref ss l b, rename_ref ss m (sym (label_same l m e) ∙ b), e, g)
+    go false b = rw (rename_other ss l b, rename_other ss m (sym (label_same l m e) ∙ b), e, g)
+
+pub word_made : (ss : List Sub) (w k p : ℕ) → kind_of w ≡ k → payload_of w ≡ p → word_at (rename_l ss (read_at 0 w)) ≡ word_at (rename_l ss (k ∶ p))
+unfolding read_at ◌∶◌
+word_made ss w k p e g = label_word ss (read_at 0 w) (k ∶ p) e g
+
+pub word_of_made : (ss : List Sub) (k p : ℕ) → p < 67108864 → word_at (rename_l ss (read_at 0 (word_of k p))) ≡ word_at (rename_l ss (k ∶ p))
+word_of_made ss k p h = word_made ss (word_of k p) k p (kind_of_lem k p h) (payload_of_lem k p h)

@@ -16,7 +16,7 @@ use Rattle.records.specs.declared.Note.{Note}
 use Rattle.records.specs.Place.{records_at, label_at, arity_at, kids_at, end_of, end_one, end_high}
 use Rattle.rewriting.specs.Parts.{any_record, id_of, is_decorated, is_decorated_member, is_live}
 use Rattle.inspect.specs.Inside.{none_records}
-use Rattle.inspect.specs.Class.{member_other}
+use Rattle.inspect.specs.Class.{member_apart}
 use Rattle.walk_laws.specs.Still.{changes, still_after}
 use Rattle.walk_laws.specs.After.{class_after}
 use Rattle.walk_laws.specs.Rows.{fresh}
@@ -259,7 +259,7 @@ module _ {ws : List ℕ} {notes : List Note} (p : Planned ws notes) (i : ℕ) (h
     where
       go : (b : Bool) → is_element_kind (label_at ws i).kind ≡ b → is_decorated_member (label_at ws i) (kids_at ws i) ≡ false
       go true e = sym (element_mark i p h e) ∙ m
-      go false e = member_other (label_at ws i) (kids_at ws i) (no_kind 30 refl) (no_kind 31 refl) (no_kind 32 refl)
+      go false e = member_apart (label_at ws i) (kids_at ws i) (no_kind 30 refl) (no_kind 31 refl) (no_kind 32 refl)
         where
           no_kind : (k : ℕ) → is_element_kind k ≡ true → (label_at ws i).kind ≡ k → ⊥
           no_kind k t g = kinds_apart is_element_kind k (label_at ws i).kind t e (sym g)

@@ -1,7 +1,10 @@
 // How many fresh symbols each record of an accepted module takes and whether it may change: the notes of its places, filled from the last one to the first.
+// The words and the notes are two parameters: the notes are written between the questions, so that a struct of both would be made anew at each place.
 #![tactic(auto)]
 
 ghost use Rattle.std.specs.Prelude.{◌≡◌, true, false, ◌+◌, ◌<◌, length, get_or};
+ghost use Rattle.words.specs.declared.kinds.Kind.TheVariants.{ClassStatement};
+ghost use Rattle.words.specs.Kinds.{number};
 ghost use Rattle.records.specs.Ends.{blank};
 ghost use Rattle.records.specs.Place.{label_at};
 ghost use Rattle.counter.specs.Contract.{Planned, Ready, Noted, Annotated, Totals};
@@ -18,6 +21,7 @@ pub fn find_counts(ws: &[u32], notes: &mut [Note], s: u32)
     ensures { Planned ws.now notes.new × Annotated ws.now notes.new 0 × (length notes.new ≡ length notes.old) }
 {
     let mut next = ws.len();
+    // By the place: the note there is written while those behind it are read.
     for i in (0..ws.len()).rev() {
         next = next_change(ws, notes, i, next);
         notes[i] = note(ws, notes, i, next, s);
@@ -69,6 +73,7 @@ fn is_live_class(ws: &[u32], at: usize) -> bool
 }
 
 // What a class statement whose class is live leads to (rules 4 to 6).
+#[tactic(auto, using(walk_laws::specs::Kinds::class_inside, walk_laws::specs::Kinds::class_kind, crate::specs::Note::live_kind))]
 fn live_total(ws: &[u32], notes: &[Note], at: usize, s: u32) -> Total
     requires { Behind ws.now notes.now at s × (is_live_class ws.now at ≡ true) }
     ensures { Leads ws.now at result }
@@ -83,8 +88,9 @@ fn live_total(ws: &[u32], notes: &[Note], at: usize, s: u32) -> Total
 }
 
 // What that class leads to: what its note says if its body has no mark, since then the class around doesn't matter.
+#[tactic(auto, using(walk_laws::specs::Kinds::class_inside, walk_laws::specs::Kinds::class_kind, counter::specs::Body::body_inside))]
 fn class_total(ws: &[u32], notes: &[Note], at: usize, id: Option<u32>, s: u32) -> Total
-    requires { Behind ws.now notes.now at s × ((label_at ws.now at).kind ≡ 4) }
+    requires { Behind ws.now notes.now at s × ((label_at ws.now at).kind ≡ number ClassStatement) }
     ensures { Totals ws.now (at + 1) 1 (record { live = true; id = id }) false result }
 {
     let b = inspect::class_body(ws, notes, at + 1);

@@ -6,6 +6,9 @@ use Rattle.std.proofs.Math.Bool.{true, false}
 use Rattle.std.specs.declared.option.Option.{Option}
 use Rattle.std.specs.declared.option.Option.TheVariants.{None as none, Some as some}
 use borrow.Author.Tests.{eqb-false, eq-eqb, ne_eqb}
+use Rattle.words.specs.Kinds.{named, number_other}
+use Rattle.words.specs.declared.kinds.Kind.{Kind}
+use Rattle.words.specs.declared.kinds.Kind.TheVariants.{Class, Body, Method, Property, AbstractAccessor}
 use Rattle.records.specs.Forest.{end, node}
 use Rattle.records.specs.Label.{Trees}
 use Rattle.records.specs.Ends.{blank}
@@ -47,6 +50,19 @@ total_same {ws} {at} {k} {a} {has} {q} {c} {o} r t p e g =
 -- two kinds of which a test says different things are different
 pub kinds_apart : (f : ℕ → Bool) (k j : ℕ) → f k ≡ true → f j ≡ false → k ≡ j → ⊥
 kinds_apart f k j t n e = true≢false (sym t ∙ ap f e ∙ n)
+
+-- a class, a body, or a word that is neither by its answer
+pub walked_class : (n : ℕ) → n ≡ 26 → is_walked n ≡ true
+unfolding is_walked
+walked_class n e = rw e
+
+pub walked_body : (n : ℕ) → n ≡ 29 → is_walked n ≡ true
+unfolding is_walked
+walked_body n e = rw e
+
+pub walked_other : {o : Option Kind} (n : ℕ) → o ≡ named n → (o ≡ some Class → ⊥) → (o ≡ some Body → ⊥) → is_walked n ≡ false
+unfolding is_walked
+walked_other n e a b = rw (ne_eqb n 26 (number_other Class e a), ne_eqb n 29 (number_other Body e b))
 
 -- the kinds of elements that may be members
 pub element_kind : (k : ℕ) → 30 ≤ k → k < 33 → is_element_kind k ≡ true
@@ -276,6 +292,12 @@ module _ {ws : List ℕ} {notes : List Note} {at : ℕ} (w : Walks ws notes at) 
       ((label_at ws at).kind ≡ 32 → ⊥) → Totals ws at 1 a has (record { at = x.end; count = x.count; default = none })
   total_quiet a26 a29 a30 a31 a32 = total_by λ b s f l.
       record { place = t.place; state = after_same ws w.ready.whole at h b unlive s a26 a29 a30 a31 a32 ∙ (t.count unlive s refl f).state }
+
+  pub total_other_kind : {o : Option Kind} → o ≡ named (label_at ws at).kind → is_walked (label_at ws at).kind ≡ false → (o ≡ some Method → ⊥) → (o ≡ some Property → ⊥) → (o ≡ some AbstractAccessor → ⊥) →
+      Totals ws at 1 a has (record { at = x.end; count = x.count; default = none })
+  total_other_kind n e a b d =
+      total_quiet (λ g. kinds_apart is_walked 26 _ (unfold is_walked in refl) e (sym g)) (λ g. kinds_apart is_walked 29 _ (unfold is_walked in refl) e (sym g))
+      (number_other Method n a) (number_other Property n b) (number_other AbstractAccessor n d)
 
   -- a class without decorated members
   pub total_undecorated : (label_at ws at).kind ≡ 26 → any_row is_decorated_member (elements_of (kids_at ws at)) ≡ false → Totals ws at 1 a has (record { at = x.end; count = x.count; default = none })

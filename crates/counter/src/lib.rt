@@ -4,6 +4,8 @@
 #![tactic(auto)]
 
 ghost use Rattle.std.specs.Prelude.{◌≡◌, true, false, ◌||◌, ◌+◌, ◌<◌, ◌≤◌, length, get_or, is_some, None};
+ghost use Rattle.words.specs.declared.kinds.Kind.TheVariants.{Class};
+ghost use Rattle.words.specs.Kinds.{number};
 ghost use Rattle.records.specs.Ends.{Ends, blank};
 ghost use Rattle.records.specs.Place.{label_at, kids_at};
 ghost use Rattle.rewriting.specs.Parts.{has_plain_key, is_decorated};
@@ -110,7 +112,8 @@ pub fn total_records(ws: &[u32], notes: &[Note], at: usize, k: usize, a: Around,
     t
 }
 
-// The k records at `at` where no class around is live: what their notes say.
+// The k records at `at` where no class around is live: what their notes say. Not `total_records` with such a class, which answers the same: that asks
+// each record for the class around, and the whole call took longer (speed).
 pub fn total_noted(ws: &[u32], notes: &[Note], at: usize, k: usize) -> Total
     requires { Walks ws.now notes.now at }
     ensures { Totals ws.now at k unlive false result }
@@ -146,7 +149,7 @@ fn total_record(ws: &[u32], notes: &[Note], at: usize, a: Around, has: bool) -> 
 }
 
 // Is the record at `at` a class or a body?
-#[tactic(auto, unfolding(crate::specs::Contract::is_walked))]
+#[tactic(auto, using(crate::specs::Totals::walked_class, crate::specs::Totals::walked_body, crate::specs::Totals::walked_other))]
 fn is_walked(ws: &[u32], at: usize) -> bool
     ensures { result ≡ is_walked (label_at ws.now at).kind }
 {
@@ -225,7 +228,7 @@ pub fn class_count(
     id: Option<u32>,
     default: Option<u32>,
 ) -> u32
-    requires { Planned ws.now notes.now × (at + 1 < length ws.now) × ((label_at ws.now (at + 1)).kind ≡ 26) × (at < 67108864) }
+    requires { Planned ws.now notes.now × (at + 1 < length ws.now) × ((label_at ws.now (at + 1)).kind ≡ number Class) × (at < 67108864) }
     ensures { (result ≡ class_count (is_decorated (kids_at ws.now (at + 1))) id (get_or notes.now at blank).marked (is_some default)) × (result ≤ 2) }
 {
     if !notes[at + 1].marked {

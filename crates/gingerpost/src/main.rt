@@ -13,6 +13,8 @@ use std::io::{ErrorKind, Read, Write};
 use std::rt::{Env, Files};
 use std::{fs, io};
 
+// Memory is fixed: arrays of the greatest length, with how much of them is used.
+
 // One word more than a module may have: a longer text is answered as its first words are.
 const MODULE_WORDS: usize = 4097;
 // Three times the longest module's.

@@ -1,5 +1,5 @@
 -- The sets of kinds that `is_allowed` reads say what the table says. Assumes nothing.
-use Rattle.std.specs.Prelude.{◌≡◌, Bool, false, cond, not, ℕ, ◌<◌, ◌^◌, eqb, replicate}
+use Rattle.std.specs.Prelude.{◌≡◌, Bool, false, cond, not, ℕ, zero, suc, ◌<◌, ◌^◌, eqb, replicate}
 use Rattle.std.proofs.Math.Path.{refl}
 use Rattle.std.proofs.Common.{sym, ap, subst, ◌∙◌, arith}
 use Rattle.std.proofs.Math.Bool.{true}
@@ -9,7 +9,7 @@ use Rattle.std.proofs.Math.Dec.{T, eqb→eq}
 use borrow.Author.Tests.{eqb-true, eq-eqb, ne_eqb}
 use Rattle.words.specs.Table.{lookup, both, every, below_all}
 use Rattle.words.specs.Word.{kind_lt}
-use Rattle.words.specs.Shape.{bit_of, bit_one}
+use Rattle.words.specs.Shape.{bit_of, bit_lt, bit_one, bit_none}
 use Rattle.grammar.specs.Grammar.{slot, row, no_row, table, row_of, holds, allowed, is_symbol}
 use Rattle.grammar.proofs.Rows.{test_left, test_right, implied, allowed_row, allowed_known, sole_kind, kind_sole}
 use Rattle.grammar.specs.Scan.{place, too_many_symbols, decorated_constructor}
@@ -123,9 +123,18 @@ symbol_in k h = go (is_symbol k) (eqb (bit_of with_symbol k) 0) (below_all same_
     go false true t = refl
     go false false t = absurd t
 
+-- `is_in` tests for 1
+pub in_test : (s k : ℕ) → eqb (bit_of s k) 1 ≡ not (eqb (bit_of s k) 0)
+in_test s k = go (bit_of s k) (bit_lt s k)
+  where
+    go : (b : ℕ) → b < 2 → eqb b 1 ≡ not (eqb b 0)
+    go zero h = refl
+    go (suc zero) h = refl
+    go (suc (suc b)) h = absurd (omega arith)
+
 -- what `is_allowed`, `is_symbol` and `fault` are proved by
 pub ruleset set_laws = (kind_lt, bit_one, category_in, not_in, free_in, empty_in, flag_in)
 
-pub ruleset symbol_laws = (kind_lt, symbol_in)
+pub ruleset symbol_laws = (kind_lt, symbol_in, in_test)
 
-pub ruleset limit_laws = (few_symbols, undecorated)
+pub ruleset limit_laws = (few_symbols, undecorated, bit_none)

@@ -1,4 +1,5 @@
 // The grammar's leaves: the limits, the refusals, what may stand at a place and, of one word, whether it may stand there and which refusal it is.
+// Flags of a payload are read where they are asked, as the definitions do (`bit0`, `bit1`, `bit2` in words/specs/Word): a payload's bits are the word's form.
 #![tactic(auto)]
 
 ghost use Rattle.std.specs.Prelude.{◌≡◌, ℕ, ◌+◌, ◌-◌};
@@ -78,7 +79,8 @@ pub enum Slot {
     Code,
 }
 
-// Sets of kinds, bit k for the kind k. Sets and not `matches!`: a word is tested by one shift, and no branch goes by its kind (speed). The statements, the expressions, the elements of a class.
+// Sets of kinds, bit k for the kind k. Sets and not `matches!`: a word is tested by one shift, and no branch goes by its kind (speed). The statements,
+// the expressions, the elements of a class.
 const STATEMENTS: u64 = 1 << Kind::ExpressionStatement as u32
     | 1 << Kind::Block as u32
     | 1 << Kind::ClassStatement as u32
@@ -213,14 +215,14 @@ fn flags_hold(slot: Slot, w: u32) -> bool
 fn is_allowed(slot: Slot, w: u32) -> bool
     ensures { result ≡ allowed (slot_of slot) (kind_of w) (payload_of w) }
 {
-    // The tests in turn, not by one `||`: the first that answers is the last one made (speed).
-    if words::kind_bit(kinds_of(slot), w) == 0 {
+    // Each test of a set is one shift and answers at once. One chain of `&&` and `||` stops as early, but needs an `if` inside for EMPTY: no plainer.
+    if !words::is_in(w, kinds_of(slot)) {
         return false;
     }
-    if words::kind_bit(FREE, w) != 0 {
+    if words::is_in(w, FREE) {
         return true;
     }
-    if words::kind_bit(EMPTY, w) != 0 {
+    if words::is_in(w, EMPTY) {
         return words::payload_of(w) == 0;
     }
     flags_hold(slot, w)
@@ -231,7 +233,7 @@ fn is_allowed(slot: Slot, w: u32) -> bool
 fn is_symbol(w: u32) -> bool
     ensures { result ≡ is_symbol (kind_of w) }
 {
-    words::kind_bit(WITH_SYMBOL, w) != 0
+    words::is_in(w, WITH_SYMBOL)
 }
 
 // Is it a symbol that isn't one of s.
@@ -273,7 +275,7 @@ pub fn fault(s: u32, slot: Slot, left: u32, w: u32) -> Result<(), Refusal>
     if is_unknown_symbol(s, w) {
         return Err(Refusal::UnknownSymbol);
     }
-    if words::kind_bit(LIMITED, w) == 0 {
+    if !words::is_in(w, LIMITED) {
         return Ok(());
     }
     if is_too_many_symbols(w) {

@@ -1,10 +1,12 @@
 -- Laws of words as bytes. Assumes nothing.
 use Rattle.std.specs.Prelude.{◌≡◌, refl, ℕ, zero, suc, ◌+◌, ◌*◌, ◌/◌, ◌%◌, ◌^◌, ◌<◌, ◌≤◌, length, get_or, take, set}
-use Rattle.std.proofs.Common.{sym, ap, ◌∙◌, arith, shr-shr, take_all, take-suc-set, length-take-le}
+use Rattle.std.proofs.Common.{sym, ap, ◌∙◌, add-zero, arith, shr-shr, take_all, take-suc-set, length-take-le}
 use mathlib.Core.List.{List, [], ◌∷◌, ◌++◌, append_assoc, append-nil}
 use Rattle.std.proofs.Math.Numerals.{add-one, add-two, add-three}
 use Rattle.std.proofs.Math.Pow.{split, shr_mod}
 use Rattle.std.proofs.Math.Seq.{take-suc}
+use Rattle.std.proofs.Math.Seq.{paste}
+use Rattle.std.proofs.lemmas.List.Edits.{paste_none, paste_more}
 use Rattle.output.specs.Overlay.{overlay, overlay_append}
 use Rattle.host.specs.Bytes.{word_from, words_of_bytes, bytes_from, bytes_of_words, Small}
 
@@ -83,6 +85,17 @@ pub stored_word : (o : List ℕ) (at w a b c d : ℕ) → a ≡ w % 2 ^ 8 → b 
     set (set (set (set o at a) (at + 1) b) (at + 2) c) (at + 3) d ≡ overlay o at (bytes_from w)
 unfolding overlay bytes_from
 stored_word o at w a b c d e f g h = rw (e, f, g, h, add-one, add-two, add-three)
+
+-- four bytes copied in one piece
+pub pasted_word : (o : List ℕ) (at a b c d : ℕ) → at + 4 ≤ length o →
+    paste o at (a ∷ b ∷ c ∷ d ∷ []) 4 ≡ set (set (set (set o at a) (at + 1) b) (at + 2) c) (at + 3) d
+pasted_word o at a b c d h =
+    let s : List ℕ = a ∷ b ∷ c ∷ d ∷ [] in
+    let e₁ : paste o at s 1 ≡ set o at a =
+    sym (paste_more o at s 0 0 (omega arith) (omega arith)) ∙ ap (λ (q : List ℕ). set q (at + 0) a) (sym (paste_none o at s)) ∙ ap (λ (i : ℕ). set o i a) (add-zero at) in
+    let e₂ : paste o at s 2 ≡ set (set o at a) (at + 1) b = sym (paste_more o at s 1 0 (omega arith) (omega arith)) ∙ ap (λ (q : List ℕ). set q (at + 1) b) e₁ in
+    let e₃ : paste o at s 3 ≡ set (set (set o at a) (at + 1) b) (at + 2) c = sym (paste_more o at s 2 0 (omega arith) (omega arith)) ∙ ap (λ (q : List ℕ). set q (at + 2) c) e₂ in
+    sym (paste_more o at s 3 0 (omega arith) (omega arith)) ∙ ap (λ (q : List ℕ). set q (at + 3) d) e₃
 
 -- one more word unpacked
 pub unpack_step : (ws o o₁ o₂ : List ℕ) (i : ℕ) → i < length ws → o₁ ≡ overlay o 0 (bytes_of_words (take i ws)) → o₂ ≡ overlay o₁ (4 * i) (bytes_from (get_or ws i 0)) →

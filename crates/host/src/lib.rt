@@ -13,7 +13,7 @@ ghost use Rattle.host.specs.LendsBytes.{LendsBytes};
 
 use grammar::Refusal;
 use records::Note;
-use rewriter::{Job, Rewriting, Written};
+use rewriter::{Job, Numbers, Rewriting, Written};
 use symbol_report::Reporting;
 
 // Rewrites the module in `bytes`; the answer's bytes go to the start of `out`. The number holds the three answers.
@@ -131,11 +131,7 @@ fn store_word(out: &mut [u8], at: usize, w: u32)
     requires { at + 4 ≤ length out.old }
     ensures { out.new ≡ overlay out.old at (bytes_from w) }
 {
-    let [a, b, c, d] = w.to_le_bytes();
-    out[at] = a;
-    out[at + 1] = b;
-    out[at + 2] = c;
-    out[at + 3] = d;
+    out[at..at + 4].copy_from_slice(&w.to_le_bytes());
 }
 
 // The number that holds an answer's three.
@@ -143,8 +139,6 @@ fn number(answer: Result<Written, Refusal>) -> u64
     requires { InFields (numbers_of answer) }
     ensures { result ≡ number_of (numbers_of answer) }
 {
-    match answer {
-        Ok(a) => (a.words as u64) << 8 | (a.fresh as u64) << 36,
-        Err(refusal) => u32::from(refusal) as u64,
-    }
+    let n = Numbers::from(answer);
+    n.code as u64 | (n.written as u64) << 8 | (n.fresh as u64) << 36
 }

@@ -15,7 +15,6 @@ use Rattle.std.proofs.lemmas.Iterator.{YieldsList}
 use Rattle.std.proofs.lemmas.Iterator.Consumers.{YieldsList-from_shown}
 use Rattle.std.proofs.lemmas.Iterator.Search.{any_from_yields_List, find_from_yields_List, position_from_yields_List}
 use Rattle.records.specs.Label.{Trees}
-use Rattle.records.specs.Place.{records_at}
 use Rattle.records.specs.Places.{places}
 use lib.ListN.{length}
 use Rattle.inspect.specs.Chain.{here, before_places, any_places, Search, searched}
@@ -34,20 +33,16 @@ module _ {ws : List ℕ} {f : Trees} (r : Reader) (e : Reads r ws f) where
       ((x : ℕ) (b : Bool) (q : F) → Called g h (x, tt) b q → (q ≡ h) × (b ≡ here p ws x)) → b ≡ any_row p f
   any_read p u h b ran test = any_from_yields_List {s = r} (here p ws) u h b ran reads test ∙ any_places p ws r.at r.left ∙ ap (any_row p) e.row
 
-  pub find_read : (p : Test) {at k : ℕ} → r.at ≡ at → r.left ≡ k → (u : Reader) {F : Type 0} {g : Mut F (Bor ℕ × Unit {0}) Bool} (h : F) (o : Option ℕ) →
+  pub find_read : (p : Test) (u : Reader) {F : Type 0} {g : Mut F (Bor ℕ × Unit {0}) Bool} (h : F) (o : Option ℕ) →
       (xs : List ℕ) × (j : F) × YieldsThen Next r xs o u × FoldsTo (λ p x q. CalledAt g p x false q) h xs j × MatchOption o (Unit {0}) (λ x. (h : F) × CalledAt g j x true h) →
-      ((x : ℕ) (b : Bool) (q : F) → CalledAt g h x b q → (q ≡ h) × (b ≡ here p ws x)) → Search p ws at k o
-  find_read p {at} {k} a n u h o ran test =
-      let there : Search p ws r.at r.left o = subst (Search p ws r.at r.left) (sym (sym (same o) ∙ find_from_yields_List {s = r} (here p ws) u h o ran reads test)) (searched p ws r.at r.left) in
-      subst (λ (m : ℕ). Search p ws m k o) a (subst (λ (m : ℕ). Search p ws r.at m o) n there)
+      ((x : ℕ) (b : Bool) (q : F) → CalledAt g h x b q → (q ≡ h) × (b ≡ here p ws x)) → Search p ws r.at r.left o
+  find_read p u h o ran test = subst (Search p ws r.at r.left) (sym (sym (same o) ∙ find_from_yields_List {s = r} (here p ws) u h o ran reads test)) (searched p ws r.at r.left)
     where
       same : (o : Option ℕ) → option_map (λ (q : ℕ). q) o ≡ o
       same None = refl
       same (Some q) = refl
 
-  pub position_read : (p : Test) {at k : ℕ} → r.at ≡ at → r.left ≡ k → (u : Reader) {F : Type 0} {g : Mut F (ℕ × Unit {0}) Bool} (h : F) (o : Option ℕ) →
+  pub position_read : (p : Test) (u : Reader) {F : Type 0} {g : Mut F (ℕ × Unit {0}) Bool} (h : F) (o : Option ℕ) →
       (xs : List ℕ) × (x : Option ℕ) × (j : F) × YieldsThen Next r xs x u × FoldsTo (λ p x q. Called g p (x, tt) false q) h xs j × MatchOption x (o ≡ None) (λ x. (o ≡ Some (length xs)) × ((h : F) × Called g j (x, tt) true h)) →
-      ((x : ℕ) (b : Bool) (q : F) → Called g h (x, tt) b q → (q ≡ h) × (b ≡ here p ws x)) → unwrap_or o k ≡ before p k (records_at ws at)
-  position_read p {at} {k} a n u h o ran test =
-      let here' : unwrap_or o r.left ≡ before p r.left (records_at ws r.at) = ap (λ (o : Option ℕ). unwrap_or o r.left) (position_from_yields_List {s = r} (here p ws) u h o ran reads test) ∙ before_places p ws r.at r.left in
-      rw (n, a) at here'
+      ((x : ℕ) (b : Bool) (q : F) → Called g h (x, tt) b q → (q ≡ h) × (b ≡ here p ws x)) → unwrap_or o r.left ≡ before p r.left f
+  position_read p u h o ran test = ap (λ (o : Option ℕ). unwrap_or o r.left) (position_from_yields_List {s = r} (here p ws) u h o ran reads test) ∙ before_places p ws r.at r.left ∙ ap (before p r.left) e.row

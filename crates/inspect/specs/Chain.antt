@@ -8,11 +8,13 @@ use Rattle.std.proofs.Common.{sym, ap, subst, ◌∙◌, arith, ltb, ltb-true, l
 use borrow.Author.Tests.{lt-ltb, le-ltb}
 use Rattle.records.specs.Forest.{end, node, take_f}
 use Rattle.records.specs.Label.{Trees, is}
-use Rattle.records.specs.Place.{records_at, label_at, kids_at, end_of}
+use Rattle.records.specs.Place.{records_at, label_at, arity_at, kids_at, end_of}
 use Rattle.records.specs.Places.{places, row_at, row_places, places_none, places_past, places_more, few_places}
 use Rattle.rewriting.specs.Parts.{is_empty, of_parameters, parameters_of, first_constructor}
 use Rattle.inspect.specs.Class.{constructs, first_none, first_place}
 use Rattle.inspect.specs.Child.{Found, of_kind, found_here, found_none}
+use Rattle.inspect.specs.Reads.{Reads, rest, reads_rest}
+use Rattle.inspect.specs.declared.reading.Reader.{Reader}
 use Rattle.inspect.specs.Row.{Test, any_row, count_row, before, Passed, passed_start, passed_next, any_all, any_past, before_here, by_end}
 
 -- the test of the record at a place
@@ -60,19 +62,27 @@ module _ (p : Test) (ws : List ℕ) where
           later true e = let l : ltb (1 + i) (suc (length qs)) ≡ true = lt-ltb _ _ (omega (arith, ltb-true i (length qs) e)) in let w = rw e at h in rw l (omega (arith, w))
           later false e = let l : ltb (1 + i) (suc (length qs)) ≡ false = le-ltb _ _ (omega (arith, ltb-false i (length qs) e)) in let w = rw e at h in rw l (omega (arith, w))
 
-before_row : (p : Test) (k : ℕ) (f : Trees) → before p k (take_f k f) ≡ before p k f
+pub before_row : (p : Test) (k : ℕ) (f : Trees) → before p k (take_f k f) ≡ before p k f
 unfolding before take_f
 before_row p zero f = refl
 before_row p (suc k) end = refl
 before_row p (suc k) (node l kids rest) = ap (λ (n : ℕ). cond (p l kids) 0 (suc n)) (before_row p k rest)
 
 -- the number of records before the first, by its number in the list
-pub before_places : (p : Test) (ws : List ℕ) (at k : ℕ) → unwrap_or (cond (ltb (position_or_len (here p ws) (places ws at k)) (length (places ws at k))) (Some (position_or_len (here p ws) (places ws at k))) None) k ≡ before p k (records_at ws at)
-before_places p ws at k = whole (ltb (position_or_len (here p ws) (places ws at k)) (length (places ws at k))) _ ∙ first_at p ws k (places ws at k) (few_places ws at k) ∙ ap (before p k) (row_places ws at k) ∙ before_row p k (records_at ws at)
+pub before_places : (p : Test) (ws : List ℕ) (at k : ℕ) → unwrap_or (cond (ltb (position_or_len (here p ws) (places ws at k)) (length (places ws at k))) (Some (position_or_len (here p ws) (places ws at k))) None) k ≡ before p k (take_f k (records_at ws at))
+before_places p ws at k = whole (ltb (position_or_len (here p ws) (places ws at k)) (length (places ws at k))) _ ∙ first_at p ws k (places ws at k) (few_places ws at k) ∙ ap (before p k) (row_places ws at k)
   where
     whole : (b : Bool) (i : ℕ) → unwrap_or (cond b (Some i) None) k ≡ cond b i k
     whole true i = refl
     whole false i = refl
+
+-- of the children of a record, by their places
+pub first_kids : {r : Reader} {ws : List ℕ} (at : ℕ) {k j : ℕ} → Reads r ws (kids_at ws at) → r.left ≡ arity_at ws at → k ≡ arity_at ws at → j ≡ before constructs r.left (rest r) →
+    j ≡ before constructs k (records_at ws (at + 1))
+unfolding kids_at
+first_kids {r} {ws} at {k} e l m b =
+    b ∙ ap (before constructs r.left) (reads_rest e) ∙ ap (λ (n : ℕ). before constructs n (kids_at ws at)) l ∙ before_row constructs (arity_at ws at) (records_at ws (at + 1))
+    ∙ ap (λ (n : ℕ). before constructs n (records_at ws (at + 1))) (sym m)
 
 -- the first record that meets the test, among the k records at `at`, stands at r
 pub record Hit (p : Test) (ws : List ℕ) (at k r : ℕ) : Type 0 where

@@ -6,6 +6,10 @@ use Rattle.std.proofs.Math.Bool.{true, false}
 use Rattle.std.specs.declared.option.Option.TheVariants.{None as none, Some as some}
 use borrow.Author.Tests.{eq-eqb, ne_eqb, eqb-true, eqb-false}
 use Rattle.std.proofs.Math.ListN.{length}
+use Rattle.std.specs.declared.option.Option.{Option}
+use Rattle.words.specs.Kinds.{named, number_other}
+use Rattle.words.specs.declared.kinds.Kind.{Kind}
+use Rattle.words.specs.declared.kinds.Kind.TheVariants.{String, Number, Template, Null, Method, Property, AbstractAccessor, StaticBlock, Name, PrivateName}
 use Rattle.words.specs.Word.{bit0, bit1, bit2, children, child_table}
 use Rattle.words.specs.Table.{lookup}
 use Rattle.records.specs.Forest.{end, node, take_f, drop_f, append_f}
@@ -114,9 +118,11 @@ unfolding is_plain_key is ◌∶◌
 plain_kind l = refl
 
 -- a key of none of the six kinds of rule 5
-pub not_plain : (l : Label) → (l.kind ≡ 34 → ⊥) → (l.kind ≡ 35 → ⊥) → (l.kind ≡ 10 → ⊥) → (l.kind ≡ 11 → ⊥) → (l.kind ≡ 12 → ⊥) → (l.kind ≡ 13 → ⊥) → is_plain_key l ≡ false
+pub not_plain : {o : Option Kind} (l : Label) → o ≡ named l.kind → (o ≡ some String → ⊥) → (o ≡ some Number → ⊥) → (o ≡ some Template → ⊥) → (o ≡ some Null → ⊥) → (o ≡ some Name → ⊥) → (o ≡ some PrivateName → ⊥) →
+    is_plain_key l ≡ false
 unfolding is_plain_key is
-not_plain l a b c d e f = rw (ne_eqb _ 34 a, ne_eqb _ 35 b, ne_eqb _ 10 c, ne_eqb _ 11 d, ne_eqb _ 12 e, ne_eqb _ 13 f)
+not_plain l n a b c d e f =
+    rw (ne_eqb _ 34 (number_other Name n e), ne_eqb _ 35 (number_other PrivateName n f), ne_eqb _ 10 (number_other String n a), ne_eqb _ 11 (number_other Number n b), ne_eqb _ 12 (number_other Template n c), ne_eqb _ 13 (number_other Null n d))
 
 -- ---- members, by their kind
 
@@ -148,9 +154,25 @@ module _ (l : Label) (k : Trees) where
       let b : bit bit1 l ≡ true = (rw e at i) in
       rw (e, b)
 
-  pub member_other : (l.kind ≡ 30 → ⊥) → (l.kind ≡ 31 → ⊥) → (l.kind ≡ 32 → ⊥) → is_decorated_member l k ≡ false
+  pub member_apart : (l.kind ≡ 30 → ⊥) → (l.kind ≡ 31 → ⊥) → (l.kind ≡ 32 → ⊥) → is_decorated_member l k ≡ false
   unfolding is_decorated_member is_member is
-  member_other a b c = rw (ne_eqb _ 30 a, ne_eqb _ 31 b, ne_eqb _ 32 c)
+  member_apart a b c = rw (ne_eqb _ 30 a, ne_eqb _ 31 b, ne_eqb _ 32 c)
+
+  -- where the answer is none of the three kinds
+  pub member_other : {o : Option Kind} → o ≡ named l.kind → (o ≡ some Method → ⊥) → (o ≡ some Property → ⊥) → (o ≡ some AbstractAccessor → ⊥) → is_decorated_member l k ≡ false
+  member_other n a b c = member_apart (number_other Method n a) (number_other Property n b) (number_other AbstractAccessor n c)
+
+  pub static_property : l.kind ≡ 31 → is_static l k ≡ eqb (l.payload % 2) 1
+  unfolding is_static is bit bit0
+  static_property e = rw e
+
+  pub static_block : l.kind ≡ 33 → is_static l k ≡ true
+  unfolding is_static is
+  static_block e = rw e
+
+  pub static_other : {o : Option Kind} → o ≡ named l.kind → (o ≡ some Property → ⊥) → (o ≡ some StaticBlock → ⊥) → is_static l k ≡ false
+  unfolding is_static is
+  static_other n a b = rw (ne_eqb _ 31 (number_other Property n a), ne_eqb _ 33 (number_other StaticBlock n b))
 
 -- ---- the second child
 

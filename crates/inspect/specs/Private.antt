@@ -4,6 +4,11 @@ use Rattle.std.proofs.Math.Path.{refl}
 use Rattle.std.proofs.Common.{ap, ◌∙◌, arith}
 use Rattle.std.proofs.Math.Bool.{true, false}
 use borrow.Author.Tests.{ne_eqb, eqb-true, eqb-false}
+use Rattle.std.specs.declared.option.Option.{Option}
+use Rattle.std.specs.declared.option.Option.TheVariants.{Some}
+use Rattle.words.specs.Kinds.{named, number_other}
+use Rattle.words.specs.declared.kinds.Kind.{Kind}
+use Rattle.words.specs.declared.kinds.Kind.TheVariants.{Method, Property, AbstractAccessor}
 use Rattle.words.specs.Word.{bit1}
 use Rattle.words.specs.Table.{lookup}
 use Rattle.records.specs.Forest.{end, node, any_f, any_f_append}
@@ -76,10 +81,10 @@ module _ (l : Label) (k : Trees) where
       let b : bit bit1 l ≡ true = (rw e at i) in
       rw (e, b)
 
-  pub private_other : (l.kind ≡ 30 → ⊥) → (l.kind ≡ 31 → ⊥) → (l.kind ≡ 32 → ⊥) → private_in_element l k ≡ false
+  pub private_other : {o : Option Kind} → o ≡ named l.kind → (o ≡ Some Method → ⊥) → (o ≡ Some Property → ⊥) → (o ≡ Some AbstractAccessor → ⊥) → private_in_element l k ≡ false
   unfolding private_in_element role_of lookup
-  private_other a b c =
-      rw (ne_eqb _ 30 a, ne_eqb _ 31 b, ne_eqb _ 32 c) (go (eqb l.kind 1) (eqb l.kind 3) (eqb l.kind 33) (eqb l.kind 39) (eqb l.kind 4) (eqb l.kind 20))
+  private_other n a b c =
+      rw (ne_eqb _ 30 (number_other Method n a), ne_eqb _ 31 (number_other Property n b), ne_eqb _ 32 (number_other AbstractAccessor n c)) (go (eqb l.kind 1) (eqb l.kind 3) (eqb l.kind 33) (eqb l.kind 39) (eqb l.kind 4) (eqb l.kind 20))
     where
       go : (b1 b3 b33 b39 b4 b20 : Bool) →
           any_f (is 19) (decorators_of (cond b1 module' (cond b3 list (cond b33 list (cond b39 list (cond b4 statement (cond b20 expression plain)))))) k) ≡ false

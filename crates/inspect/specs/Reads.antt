@@ -1,5 +1,5 @@
 -- What a reader has left: the places of its records, and the records as a row; a step of it. Assumes nothing.
-use Rattle.std.specs.Prelude.{◌≡◌, List, [], ℕ, suc, ◌+◌, ◌<◌, length}
+use Rattle.std.specs.Prelude.{◌≡◌, refl, List, [], ℕ, suc, ◌+◌, ◌<◌, length}
 use Rattle.std.proofs.Common.{sym, ap, ◌∙◌, arith}
 use Rattle.std.specs.Iterator.{YieldsFirst}
 use Rattle.std.specs.Option.{IfSome}
@@ -21,6 +21,10 @@ rest r = take_f r.left (records_at r.words.now r.at)
 pub record Reads (r : Reader) (ws : List ℕ) (f : Trees) : Type 0 where
   pub words : r.words.now ≡ ws
   pub row : take_f r.left (records_at ws r.at) ≡ f
+
+-- what it has left, of its own words
+pub reads_own : (r : Reader) → Reads r r.words.now (rest r)
+reads_own r = record { words = refl; row = refl }
 
 pub reads_rest : {r : Reader} {ws : List ℕ} {f : Trees} → Reads r ws f → rest r ≡ f
 reads_rest e = rw e.words e.row

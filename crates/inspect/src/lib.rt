@@ -1,18 +1,19 @@
-// The reader, and what is asked of records as they are read, by chains over the places that the reader gives. Reads the words and the notes, writes
-// nothing. Every function takes every place: past the end of the words stands the word 0, and of the k records at a place there are fewer where the words
-// end.
-// The words, their notes and a place are parameters, not a struct: they are the core under the reader, whose ghost field is the clause that they repeat.
+// The reader, and what is asked of records as they are read. Reads the words and the notes, writes nothing. Every function takes every place: past the
+// end of the words stands the word 0, and of the k records at a place there are fewer where the words end.
+// What is asked of a row of records is a method of the reader, whose ghost field is the clause on the notes. The word at a place and what is asked of
+// one record take the words, the notes where they are needed, and the place: a reader has a number of records too, which would say nothing there.
 #![tactic(auto)]
 
 ghost use Rattle.std.specs.Prelude.{◌≡◌, not, ◌+◌, ◌-◌, ◌<◌, ◌≤◌, eqb, length, get_or, IfSome};
 ghost use Rattle.words.specs.Word.{bit0};
+ghost use Rattle.words.specs.declared.kinds.Kind.TheVariants.{PrivateIn, Class, Body, Parameters};
 ghost use Rattle.words.specs.Kinds.{number, named};
 ghost use Rattle.records.specs.Forest.{end, take_f, any_f};
 ghost use Rattle.records.specs.Label.{is, read_at, ◌∶◌};
 ghost use Rattle.records.specs.Ends.{Ends};
 ghost use Rattle.records.specs.Place.{records_at, label_at, arity_at, kids_at, end_of};
 ghost use Rattle.rewriting.specs.Parts.{is_empty, decorators, of_parameters, parameters_of, elements_of, is_constructor, is_decorated_member, is_plain_key, has_plain_key, constructor_decorated, has_static, first_constructor, id_of, of_elements, has_private_in, is_live, is_decorated, is_decorated_class};
-ghost use Rattle.inspect.specs.Reads.{Reads};
+ghost use Rattle.inspect.specs.Reads.{Reads, rest};
 ghost use Rattle.inspect.specs.Row.{any_row, before};
 ghost use Rattle.inspect.specs.Child.{Found, DecoratorsAt, SecondWord};
 ghost use Rattle.inspect.specs.Class.{has_decorators, constructs, is_decorated_constructor, is_static, count_called};
@@ -79,37 +80,26 @@ pub fn children<'a>(ws: &'a [u32], notes: &'a [Note], at: usize) -> Reader<'a>
     Reader::records(ws, notes, at.saturating_add(1), children_at(ws, at))
 }
 
-// The first record of a kind among the k records at `at`.
-fn find(ws: &[u32], notes: &[Note], at: usize, k: usize, kind: Kind) -> usize
-    requires { Ends ws.now notes.now 0 }
-    ensures { Found ws.now (number kind) at k result }
-{
-    Reader::records(ws, notes, at, k)
-        .find(|&q| is_kind_at(ws, q, kind))
-        .unwrap_or(ws.len())
-}
-
 // The first child of a kind of the record at `at`.
 fn child(ws: &[u32], notes: &[Note], at: usize, kind: Kind) -> usize
     requires { Ends ws.now notes.now 0 }
     ensures { Found ws.now (number kind) (at + 1) (arity_at ws.now at) result }
 {
-    let r = children(ws, notes, at);
-    find(ws, notes, r.at, r.left, kind)
+    children(ws, notes, at).first_of(kind)
 }
 
-// The 36 of the method, constructor or function at `at`.
+// The parameters' record in the method, constructor or function at `at`.
 pub fn parameters(ws: &[u32], notes: &[Note], at: usize) -> usize
     requires { Ends ws.now notes.now 0 }
-    ensures { (kids_at ws.now result ≡ parameters_of (kids_at ws.now at)) × Found ws.now 36 (at + 1) (arity_at ws.now at) result }
+    ensures { (kids_at ws.now result ≡ parameters_of (kids_at ws.now at)) × Found ws.now (number Parameters) (at + 1) (arity_at ws.now at) result }
 {
     child(ws, notes, at, Kind::Parameters)
 }
 
-// The 29 of the class at `at`.
+// The body of the class at `at`.
 pub fn body(ws: &[u32], notes: &[Note], at: usize) -> usize
     requires { Ends ws.now notes.now 0 }
-    ensures { (kids_at ws.now result ≡ elements_of (kids_at ws.now at)) × Found ws.now 29 (at + 1) (arity_at ws.now at) result }
+    ensures { (kids_at ws.now result ≡ elements_of (kids_at ws.now at)) × Found ws.now (number Body) (at + 1) (arity_at ws.now at) result }
 {
     child(ws, notes, at, Kind::Body)
 }
@@ -130,7 +120,7 @@ pub fn elements<'a>(ws: &'a [u32], notes: &'a [Note], at: usize) -> Reader<'a>
     children(ws, notes, body(ws, notes, at))
 }
 
-// The 28 of the record at `at`, if it is the first child.
+// The decorators' record in the one at `at`, if it is the first child.
 pub fn decorators(ws: &[u32], at: usize) -> usize
     ensures { DecoratorsAt ws.now at result }
 {
@@ -159,22 +149,14 @@ fn second_word(ws: &[u32], notes: &[Note], at: usize) -> u32
     word_behind(ws, notes, at + 1, 1)
 }
 
-// ---- members; `at` is the place of a 30, 31 or 32
-
-// Has one of the k parameters at `at` decorators?
-pub fn any_decorated(ws: &[u32], notes: &[Note], at: usize, k: usize) -> bool
-    requires { Ends ws.now notes.now 0 }
-    ensures { result ≡ any_row has_decorators (take_f k (records_at ws.now at)) }
-{
-    Reader::records(ws, notes, at, k).any(|q| decorated(ws, q))
-}
+// ---- members; `at` is the place of a method, property or abstract accessor
 
 // Has the method or constructor at `at` a decorated parameter?
 pub fn class_method_parameter_is_decorated(ws: &[u32], notes: &[Note], at: usize) -> bool
     requires { Ends ws.now notes.now 0 }
     ensures { result ≡ not (is_empty (of_parameters 0 (parameters_of (kids_at ws.now at)))) }
 {
-    parameters_of(ws, notes, at).any(|q| decorated(ws, q))
+    parameters_of(ws, notes, at).any_decorated()
 }
 
 // Is the word that of a constructor?
@@ -192,6 +174,7 @@ pub fn is_constructor_at(ws: &[u32], at: usize) -> bool
 }
 
 // Rule 3: is the element at `at` a member with decorators, its parameters' included?
+#[tactic(auto, using(crate::specs::Class::member_method, crate::specs::Class::member_constructor, crate::specs::Class::member_field, crate::specs::Class::member_other))]
 fn member_decorated(ws: &[u32], notes: &[Note], at: usize) -> bool
     requires { Ends ws.now notes.now 0 }
     ensures { result ≡ is_decorated_member (label_at ws.now at) (kids_at ws.now at) }
@@ -207,6 +190,7 @@ fn member_decorated(ws: &[u32], notes: &[Note], at: usize) -> bool
 }
 
 // Rule 5: does a key with this word give a name as it stands?
+#[tactic(auto, using(crate::specs::Class::not_plain), unfolding(records::specs::Label::read_at))]
 pub fn is_plain_key(w: u32) -> bool
     ensures { result ≡ is_plain_key (read_at 0 w) }
 {
@@ -231,8 +215,6 @@ pub fn plain_key(ws: &[u32], notes: &[Note], at: usize) -> bool
     is_plain_key(second_word(ws, notes, at))
 }
 
-// ---- rows of elements: k of them, the first at `at`
-
 // Is the element at `at` a constructor with a decorated parameter?
 fn is_decorated_constructor(ws: &[u32], notes: &[Note], at: usize) -> bool
     requires { Ends ws.now notes.now 0 }
@@ -241,15 +223,8 @@ fn is_decorated_constructor(ws: &[u32], notes: &[Note], at: usize) -> bool
     is_constructor_at(ws, at) && class_method_parameter_is_decorated(ws, notes, at)
 }
 
-// Rule 6: has any constructor a decorated parameter?
-pub fn constructor_decorated(ws: &[u32], notes: &[Note], at: usize, k: usize) -> bool
-    requires { Ends ws.now notes.now 0 }
-    ensures { result ≡ constructor_decorated (take_f k (records_at ws.now at)) }
-{
-    Reader::records(ws, notes, at, k).any(|q| is_decorated_constructor(ws, notes, q))
-}
-
 // Is the element at `at` a static block or a static property?
+#[tactic(auto, using(crate::specs::Class::static_property, crate::specs::Class::static_block, crate::specs::Class::static_other))]
 fn is_static(ws: &[u32], at: usize) -> bool
     ensures { result ≡ is_static (label_at ws.now at) (kids_at ws.now at) }
 {
@@ -260,45 +235,82 @@ fn is_static(ws: &[u32], at: usize) -> bool
     }
 }
 
-// Rule 8: is there a static property or a static block?
-pub fn has_static(ws: &[u32], notes: &[Note], at: usize, k: usize) -> bool
-    requires { Ends ws.now notes.now 0 }
-    ensures { result ≡ has_static (take_f k (records_at ws.now at)) }
-{
-    Reader::records(ws, notes, at, k).any(|q| is_static(ws, q))
+// ---- rows: what is asked of the records that a reader has left
+
+impl<'a> Reader<'a> {
+    // The first record of a kind, or the end of the words.
+    fn first_of(mut self, kind: Kind) -> usize
+        ensures { Found self.entry.words.now (number kind) self.entry.at self.entry.left result }
+    {
+        let words = self.words;
+        self.find(|&q| is_kind_at(words, q, kind))
+            .unwrap_or(words.len())
+    }
+
+    // Is there a word of a kind in the records?
+    fn contains(self, kind: Kind) -> bool
+        ensures { result ≡ any_f (is (number kind)) (rest self.entry) }
+    {
+        let e = self.behind(self.left).at;
+        // Not `is_some_and`: a closure would stand in a closure.
+        let Some(part) = self.words.get(self.at..e) else {
+            return false;
+        };
+        part.iter().any(|&w| words::is_kind(w, kind))
+    }
+
+    // Has one of the parameters decorators?
+    pub fn any_decorated(mut self) -> bool
+        ensures { result ≡ any_row has_decorators (rest self.entry) }
+    {
+        let words = self.words;
+        self.any(|q| decorated(words, q))
+    }
+
+    // Rule 6: has any constructor among the elements a decorated parameter?
+    pub fn constructor_decorated(mut self) -> bool
+        ensures { result ≡ constructor_decorated (rest self.entry) }
+    {
+        let Reader { words, notes, .. } = self;
+        self.any(|q| is_decorated_constructor(words, notes, q))
+    }
+
+    // Rule 8: is there a static property or a static block?
+    pub fn has_static(mut self) -> bool
+        ensures { result ≡ has_static (rest self.entry) }
+    {
+        let words = self.words;
+        self.any(|q| is_static(words, q))
+    }
+
+    // The number of elements before the first constructor, or `left` where there is none.
+    pub fn first_constructor(mut self) -> usize
+        ensures { result ≡ before constructs self.entry.left (rest self.entry) }
+    {
+        let Reader { words, left, .. } = self;
+        self.position(|q| is_constructor_at(words, q))
+            .unwrap_or(left)
+    }
+
+    // Rule 7: has the first constructor a decorated parameter?
+    pub fn first_constructor_decorated(mut self) -> bool
+        ensures { result ≡ not (is_empty (first_constructor (rest self.entry))) }
+    {
+        let Reader { words, notes, .. } = self;
+        self.find(|&q| is_constructor_at(words, q))
+            .is_some_and(|q| class_method_parameter_is_decorated(words, notes, q))
+    }
+
+    // The number of decorated members.
+    pub fn call_count(self) -> usize
+        ensures { result ≡ count_called (rest self.entry) }
+    {
+        let Reader { words, notes, .. } = self;
+        self.filter(|&q| member_decorated(words, notes, q)).count()
+    }
 }
 
-// The number of elements before the first constructor, or k where there is none.
-pub fn first_constructor(ws: &[u32], notes: &[Note], at: usize, k: usize) -> usize
-    requires { Ends ws.now notes.now 0 }
-    ensures { result ≡ before constructs k (records_at ws.now at) }
-{
-    Reader::records(ws, notes, at, k)
-        .position(|q| is_constructor_at(ws, q))
-        .unwrap_or(k)
-}
-
-// Rule 7: has the first constructor a decorated parameter?
-pub fn first_constructor_decorated(ws: &[u32], notes: &[Note], at: usize, k: usize) -> bool
-    requires { Ends ws.now notes.now 0 }
-    ensures { result ≡ not (is_empty (first_constructor (take_f k (records_at ws.now at)))) }
-{
-    Reader::records(ws, notes, at, k)
-        .find(|&q| is_constructor_at(ws, q))
-        .is_some_and(|q| class_method_parameter_is_decorated(ws, notes, q))
-}
-
-// The number of decorated members.
-pub fn call_count(ws: &[u32], notes: &[Note], at: usize, k: usize) -> usize
-    requires { Ends ws.now notes.now 0 }
-    ensures { result ≡ count_called (take_f k (records_at ws.now at)) }
-{
-    Reader::records(ws, notes, at, k)
-        .filter(|&q| member_decorated(ws, notes, q))
-        .count()
-}
-
-// ---- classes; `at` is the place of the 26
+// ---- classes; `at` is the place of the class
 
 // The symbol of the id, if there is one.
 pub fn class_id(ws: &[u32], notes: &[Note], at: usize) -> Option<u32>
@@ -312,9 +324,9 @@ pub fn class_id(ws: &[u32], notes: &[Note], at: usize) -> Option<u32>
     Some(words::payload_of(w))
 }
 
-// The 29, by its place: behind the 28, the one word of an id and the heritage that the flags say.
+// The body, by its place: behind the decorators, the one word of an id and the heritage that the flags say.
 pub fn class_body(ws: &[u32], notes: &[Note], at: usize) -> usize
-    requires { Ends ws.now notes.now 0 × ((label_at ws.now at).kind ≡ 26) × (at + 1 < length ws.now) × (end_of ws.now (at + 1) (1 + bit0 (label_at ws.now at).payload) ≡ end_of ws.now (at + 1) 1 + bit0 (label_at ws.now at).payload) × (end_of ws.now (at + 1) (1 + bit0 (label_at ws.now at).payload) < length ws.now) }
+    requires { Ends ws.now notes.now 0 × ((label_at ws.now at).kind ≡ number Class) × (at + 1 < length ws.now) × (end_of ws.now (at + 1) (1 + bit0 (label_at ws.now at).payload) ≡ end_of ws.now (at + 1) 1 + bit0 (label_at ws.now at).payload) × (end_of ws.now (at + 1) (1 + bit0 (label_at ws.now at).payload) < length ws.now) }
     ensures { result ≡ end_of ws.now (at + 1) (arity_at ws.now at - 1) }
 {
     let p = payload_at(ws, at);
@@ -337,7 +349,7 @@ pub fn check_class_has_decorated(ws: &[u32], notes: &[Note], at: usize) -> bool
     requires { Ends ws.now notes.now 0 }
     ensures { result ≡ is_decorated (kids_at ws.now at) }
 {
-    decorated(ws, at) || elements(ws, notes, at).any(|q| is_decorated_constructor(ws, notes, q))
+    decorated(ws, at) || elements(ws, notes, at).constructor_decorated()
 }
 
 // Has the class decorators, or its first constructor a decorated parameter?
@@ -345,47 +357,29 @@ pub fn class_decorated_first(ws: &[u32], notes: &[Note], at: usize) -> bool
     requires { Ends ws.now notes.now 0 }
     ensures { result ≡ is_decorated_class (kids_at ws.now at) }
 {
-    // Not one `||`: the second test has a reader of its own.
-    if decorated(ws, at) {
-        return true;
-    }
-    let r = elements(ws, notes, at);
-    first_constructor_decorated(ws, notes, r.at, r.left)
+    decorated(ws, at) || elements(ws, notes, at).first_constructor_decorated()
 }
 
-// ---- rule 9: a private-in test, a 19, anywhere inside a decorator
-
-// Is there a word of a kind in the k records at `at`?
-fn contains(ws: &[u32], notes: &[Note], at: usize, k: usize, kind: Kind) -> bool
-    requires { Ends ws.now notes.now 0 }
-    ensures { result ≡ any_f (is (number kind)) (take_f k (records_at ws.now at)) }
-{
-    let e = records::behind(ws, notes, at, k);
-    // Not `is_some_and`: a closure would stand in a closure.
-    let Some(part) = ws.get(at..e) else {
-        return false;
-    };
-    part.iter().any(|&w| words::is_kind(w, kind))
-}
+// ---- rule 9: a private-in test anywhere inside a decorator
 
 // In the decorators of the record at `at`?
 fn private_in(ws: &[u32], notes: &[Note], at: usize) -> bool
     requires { Ends ws.now notes.now 0 }
-    ensures { result ≡ any_f (is 19) (decorators (kids_at ws.now at)) }
+    ensures { result ≡ any_f (is (number PrivateIn)) (decorators (kids_at ws.now at)) }
 {
-    let r = children(ws, notes, decorators(ws, at));
-    contains(ws, notes, r.at, r.left, Kind::PrivateIn)
+    children(ws, notes, decorators(ws, at)).contains(Kind::PrivateIn)
 }
 
 // In those of a parameter of the method or constructor at `at`?
 fn private_in_parameters(ws: &[u32], notes: &[Note], at: usize) -> bool
     requires { Ends ws.now notes.now 0 }
-    ensures { result ≡ any_f (is 19) (of_parameters 0 (parameters_of (kids_at ws.now at))) }
+    ensures { result ≡ any_f (is (number PrivateIn)) (of_parameters 0 (parameters_of (kids_at ws.now at))) }
 {
     parameters_of(ws, notes, at).any(|q| private_in(ws, notes, q))
 }
 
 // In those of the element at `at` or of a parameter of it?
+#[tactic(auto, using(crate::specs::Private::private_method, crate::specs::Private::private_constructor, crate::specs::Private::private_field, crate::specs::Private::private_other))]
 fn private_in_element(ws: &[u32], notes: &[Note], at: usize) -> bool
     requires { Ends ws.now notes.now 0 }
     ensures { result ≡ private_in_element (label_at ws.now at) (kids_at ws.now at) }

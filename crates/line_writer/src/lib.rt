@@ -1,4 +1,6 @@
 // Numbers and words as lines of decimal digits, written to a lent slice of bytes and cut where it ends. Touches nothing else.
+// By place, not by `write!` and `Display`: `output::put` says what a slice that is too short holds. The three numbers are not `rewriter::Numbers`: this
+// crate stands below the rewriter.
 #![tactic(auto)]
 
 ghost use Rattle.std.specs.Prelude.{◌+◌, ◌*◌, ◌^◌, ◌<◌, length};

@@ -1,4 +1,4 @@
 pub mod Formed
 pub mod Marks
 pub mod Places
-pub mod Unmarked
+pub mod Elements

@@ -4,6 +4,7 @@ use Rattle.std.specs.Prelude.{◌≡◌, Bool, ◌&&◌, ◌||◌, List, [], ◌
 use Rattle.std.proofs.Math.Path.{refl, ap, subst}
 use Rattle.std.proofs.Common.{sym, ◌∙◌, true≢false, arith, length-set, get_or-set_same, get_or-set_other}
 use Rattle.std.proofs.Math.Bool.{true, false, and-false, or-false}
+use Rattle.std.specs.Option.{MatchOption}
 use Rattle.std.specs.declared.option.Option.{Option}
 use Rattle.std.specs.declared.option.Option.TheVariants.{None as none, Some as some}
 use Rattle.std.proofs.Math.Dec.{eqb}
@@ -25,7 +26,10 @@ use Rattle.rewriting.specs.Visit.{Result, is_ref, visit}
 use Rattle.inspect.specs.Row.{any_row}
 use Rattle.inspect.specs.Inside.{record_open, record_past}
 use Rattle.inspect.specs.Refused.{refused_other}
-use Rattle.inspect.specs.Class.{member_other}
+use Rattle.inspect.specs.Class.{member_apart, member_other}
+use Rattle.words.specs.Kinds.{named, number_other}
+use Rattle.words.specs.declared.kinds.Kind.{Kind}
+use Rattle.words.specs.declared.kinds.Kind.TheVariants.{ClassStatement, Class, Body, Method, Property, AbstractAccessor, Symbols}
 use Rattle.walk_laws.specs.Rows.{visit_at, fresh, kids_visit}
 use Rattle.walk_laws.specs.After.{mentioned}
 use Rattle.walk_laws.specs.Slots.{Standing, standing_at, kind_row, row_first}
@@ -129,24 +133,22 @@ module _ (ws : List ℕ) (at : ℕ) where
   unfolding takes_alias
   not_decorated e = rw (e, and-false)
 
-  pub nameless : id_of (kids_at ws (at + 1)) ≡ none → takes_alias ws at ≡ false
-  unfolding takes_alias mentions_id
-  nameless e = rw (e, and-false)
-
   pub searched : (label_at ws at).kind ≡ 4 → is_live (take_f 1 (records_at ws (at + 1))) ≡ true → is_decorated (kids_at ws (at + 1)) ≡ true →
       takes_alias ws at ≡ mentions_id (id_of (kids_at ws (at + 1))) (elements_of (kids_at ws (at + 1)))
   unfolding takes_alias is
   searched kind live decorated = rw (eq-eqb (label_at ws at).kind 4 kind, live, decorated)
 
-  pub searched_id : (c : ℕ) → id_of (kids_at ws (at + 1)) ≡ some c → mentions_id (id_of (kids_at ws (at + 1))) (elements_of (kids_at ws (at + 1))) ≡ mentions c (elements_of (kids_at ws (at + 1)))
-  unfolding mentions_id
-  searched_id c e = rw e
+-- by what a test says of the symbol, if there is one
+pub answered_id : (o : Option ℕ) (b : Bool) (f : Trees) {Said : ℕ → Type 0} → MatchOption o (b ≡ false) Said → ((c : ℕ) → Said c → b ≡ mentions c f) → b ≡ mentions_id o f
+unfolding mentions_id
+answered_id none b f e m = e
+answered_id (some c) b f s m = m c s
 
 -- ---- what a mark says, by the kind
 
 module _ (ws : List ℕ) (at : ℕ) where
   none_member : (k : ℕ) → (label_at ws at).kind ≡ k → (k ≡ 30 → ⊥) → (k ≡ 31 → ⊥) → (k ≡ 32 → ⊥) → is_decorated_member (label_at ws at) (kids_at ws at) ≡ false
-  none_member k e a b c = member_other (label_at ws at) (kids_at ws at) (λ g. a (sym e ∙ g)) (λ g. b (sym e ∙ g)) (λ g. c (sym e ∙ g))
+  none_member k e a b c = member_apart (label_at ws at) (kids_at ws at) (λ g. a (sym e ∙ g)) (λ g. b (sym e ∙ g)) (λ g. c (sym e ∙ g))
 
   pub marked_statement : (label_at ws at).kind ≡ 4 → is_marked ws at ≡ takes_alias ws at
   unfolding is_marked is
@@ -177,6 +179,12 @@ module _ (ws : List ℕ) (at : ℕ) where
   marked_symbols x e =
       let none : is_marked ws at ≡ false = marked_member (λ g. omega (arith, e, g)) (λ g. omega (arith, e, g)) (λ g. omega (arith, e, g)) ∙ none_member 40 e (λ g. omega arith) (λ g. omega arith) (λ g. omega arith) in
       rw (none, eq-eqb (label_at ws at).kind 40 e)
+
+  -- where the answer is no kind that has a mark
+  pub marked_none : {o : Option Kind} (x : Bool) → o ≡ named (label_at ws at).kind → (o ≡ some ClassStatement → ⊥) → (o ≡ some Class → ⊥) → (o ≡ some Body → ⊥) → (o ≡ some Method → ⊥) → (o ≡ some Property → ⊥) → (o ≡ some AbstractAccessor → ⊥) → (o ≡ some Symbols → ⊥) →
+      (is_marked ws at || (is 40 (label_at ws at) && x)) ≡ false
+  marked_none x n a b c d e f g =
+      marked_other x (number_other Symbols n g) ∙ marked_member (number_other ClassStatement n a) (number_other Class n b) (number_other Body n c) ∙ member_other (label_at ws at) (kids_at ws at) n d e f
 
 -- the kinds asked for, as a set
 abbrev pub asked : ℕ
@@ -305,7 +313,7 @@ done_next {ws} {notes} {m} {i} v b r d t n p e = record {
 pub done_over : {ws : List ℕ} {notes : List Note} {m i : ℕ} {test refused : Bool} (v : Note) → Done ws notes m (i + 1) test refused → PassedOver (label_at ws i).kind →
     v.end ≡ (get_or notes i blank).end → v.marked ≡ false → Done ws (set notes i v) m i test refused
 done_over {ws} {notes} {m} {i} {test} {refused} v d o p e =
-    let none : is_marked ws i ≡ false = marked_member ws i o.statement o.class o.body ∙ member_other (label_at ws i) (kids_at ws i) o.method o.property o.accessor in
+    let none : is_marked ws i ≡ false = marked_member ws i o.statement o.class o.body ∙ member_apart (label_at ws i) (kids_at ws i) o.method o.property o.accessor in
     let h : i < length ws = omega (arith, d.low) in
     done_next v test refused d (test_next ws i test d.seen o.test) (d.seven ∙ sym (seven_next i h (refused_other ws i o.statement))) p (e ∙ sym (marked_other ws i test o.symbols ∙ none))
   where

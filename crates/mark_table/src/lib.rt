@@ -1,13 +1,15 @@
 // The notes' marks: which classes take an alias or are decorated (rule 6), which members are decorated (rule 3), whether there are private-in tests
 // (rule 9); a flat loop over the places of an accepted module's words, from the last to the first. And refusal 7, in the same loop.
-// Tests answer early, and not by one `||`, where the next one reads further words first.
+// The words and the notes are two parameters: the notes are written between the questions, so that a struct of both would be made anew at each place.
 #![tactic(auto)]
 
-ghost use Rattle.std.specs.Prelude.{◌≡◌, true, ◌&&◌, ◌||◌, [], ◌∷◌, ◌+◌, ◌<◌, length};
+ghost use Rattle.std.specs.Prelude.{◌≡◌, true, ◌&&◌, ◌||◌, [], ◌∷◌, ◌+◌, ◌<◌, length, get_or};
+ghost use Rattle.words.specs.declared.kinds.Kind.TheVariants.{ClassStatement, Class, Method, Symbols};
+ghost use Rattle.words.specs.Kinds.{number};
 ghost use Rattle.words.specs.Word.{kind_of};
 ghost use Rattle.records.specs.Forest.{take_f};
 ghost use Rattle.records.specs.Label.{is};
-ghost use Rattle.records.specs.Ends.{Ends};
+ghost use Rattle.records.specs.Ends.{Ends, blank};
 ghost use Rattle.records.specs.Place.{records_at, label_at, kids_at};
 ghost use Rattle.grammar.specs.Grammar.{module'};
 ghost use Rattle.grammar.specs.WellFormed.{Fits};
@@ -16,6 +18,7 @@ ghost use Rattle.inspect.specs.Row.{any_row};
 ghost use Rattle.counter.specs.Contract.{Planned};
 ghost use Rattle.mark_table.specs.Marks.{takes_alias, is_marked, MarksFrom, ElementMarks, ClassMark, NoTest, PassedOver};
 
+use alias_search::mentions_in_body;
 use inspect::Reader;
 use records::Note;
 use words::Kind;
@@ -37,6 +40,7 @@ pub fn find_marks(ws: &[u32], notes: &mut [Note]) -> bool
 {
     let mut test = false;
     let mut refused = false;
+    // By the place: the note there is written while those behind it are read.
     for i in (0..ws.len()).rev() {
         if is_passed_over(ws[i]) {
             notes[i].marked = false;
@@ -53,7 +57,7 @@ pub fn find_marks(ws: &[u32], notes: &mut [Note]) -> bool
 fn is_passed_over(w: u32) -> bool
     ensures { result ≡ true → PassedOver (kind_of w) }
 {
-    words::kind_bit(ASKED, w) == 0
+    !words::is_in(w, ASKED)
 }
 
 // Is there a private-in test at i or behind it, where `test` says whether one stands behind it?
@@ -65,9 +69,10 @@ fn any_test(ws: &[u32], i: usize, test: bool) -> bool
 }
 
 // The mark of the record at i, where those of the places behind it are known; test: is there a private-in test?
+#[tactic(auto, using(crate::specs::Marks::marked_statement, crate::specs::Marks::marked_class, crate::specs::Marks::marked_body, crate::specs::Marks::marked_member, crate::specs::Marks::marked_other, crate::specs::Marks::marked_symbols, crate::specs::Marks::marked_none, crate::specs::Marks::marks_class, crate::specs::Marks::marks_elements, crate::specs::Places::field_own, inspect::specs::Child::kids_row))]
 fn is_marked(ws: &[u32], notes: &[Note], i: usize, test: bool) -> bool
     requires { (i < length ws.now) × Ends ws.now notes.now 0 × Fits (module' ∷ []) (records_at ws.now 0) × MarksFrom ws.now notes.now (i + 1) }
-    ensures { result ≡ (is_marked ws.now i || (is 40 (label_at ws.now i) && test)) }
+    ensures { result ≡ (is_marked ws.now i || (is (number Symbols) (label_at ws.now i) && test)) }
 {
     match inspect::kind_at(ws, i) {
         Some(Kind::ClassStatement) => takes_alias(ws, notes, i),
@@ -80,31 +85,23 @@ fn is_marked(ws: &[u32], notes: &[Note], i: usize, test: bool) -> bool
     }
 }
 
-// Is the class at i decorated (rule 6)? Its 28 stands right behind it.
+// Is the class at i decorated (rule 6)? Its own decorators stand right behind it.
 fn class_has_decorated(ws: &[u32], notes: &[Note], i: usize) -> bool
-    requires { (i < length ws.now) × Ends ws.now notes.now 0 × Fits (module' ∷ []) (records_at ws.now 0) × ((label_at ws.now i).kind ≡ 26) }
+    requires { (i < length ws.now) × Ends ws.now notes.now 0 × Fits (module' ∷ []) (records_at ws.now 0) × ((label_at ws.now i).kind ≡ number Class) }
     ensures { result ≡ is_decorated (kids_at ws.now i) }
 {
-    if inspect::payload_at(ws, i + 1) != 0 {
-        return true;
-    }
-    let b = inspect::class_body(ws, notes, i);
-    inspect::constructor_decorated(ws, notes, b + 1, inspect::children_at(ws, b))
+    inspect::payload_at(ws, i + 1) != 0
+        || inspect::children(ws, notes, inspect::class_body(ws, notes, i)).constructor_decorated()
 }
 
-// Is the method at i decorated (rule 3), its parameters included? Its 36 stands behind its 28 and its key.
+// Is the method at i decorated (rule 3), its parameters included? They stand behind its own decorators and its key.
 fn method_has_decorated(ws: &[u32], notes: &[Note], i: usize) -> bool
-    requires { (i < length ws.now) × Ends ws.now notes.now 0 × Fits (module' ∷ []) (records_at ws.now 0) × ((label_at ws.now i).kind ≡ 30) }
+    requires { (i < length ws.now) × Ends ws.now notes.now 0 × Fits (module' ∷ []) (records_at ws.now 0) × ((label_at ws.now i).kind ≡ number Method) }
     ensures { result ≡ is_decorated_member (label_at ws.now i) (kids_at ws.now i) }
 {
-    if inspect::is_constructor(inspect::word_at(ws, i)) {
-        return false;
-    }
-    if inspect::payload_at(ws, i + 1) != 0 {
-        return true;
-    }
-    let p = records::behind(ws, notes, i + 1, 2);
-    inspect::any_decorated(ws, notes, p + 1, inspect::payload_at(ws, p) as usize)
+    !inspect::is_constructor_at(ws, i)
+        && (inspect::payload_at(ws, i + 1) != 0
+            || inspect::children(ws, notes, records::behind(ws, notes, i + 1, 2)).any_decorated())
 }
 
 // Is one of the k elements at `at` marked?
@@ -112,27 +109,25 @@ fn any_marked(ws: &[u32], notes: &[Note], at: usize, k: usize) -> bool
     requires { Ends ws.now notes.now 0 × ElementMarks ws.now notes.now at k }
     ensures { result ≡ any_row is_decorated_member (take_f k (records_at ws.now at)) }
 {
-    // Not `any`: its closure would have to know that each place is within the notes.
-    for q in Reader::records(ws, notes, at, k) {
-        if notes[q].marked {
-            return true;
-        }
-    }
-    false
+    Reader::records(ws, notes, at, k).any(|q| has_mark(notes, q))
+}
+
+// Is the record at `at` marked? None is past the end of the notes.
+fn has_mark(notes: &[Note], at: usize) -> bool
+    ensures { result ≡ (get_or notes.now at blank).marked }
+{
+    notes.get(at).is_some_and(|note| note.marked)
 }
 
 // Does the class of the statement at i take an alias?
 fn takes_alias(ws: &[u32], notes: &[Note], i: usize) -> bool
-    requires { (i < length ws.now) × Ends ws.now notes.now 0 × Fits (module' ∷ []) (records_at ws.now 0) × ClassMark ws.now notes.now (i + 1) × ((label_at ws.now i).kind ≡ 4) }
+    requires { (i < length ws.now) × Ends ws.now notes.now 0 × Fits (module' ∷ []) (records_at ws.now 0) × ClassMark ws.now notes.now (i + 1) × ((label_at ws.now i).kind ≡ number ClassStatement) }
     ensures { result ≡ takes_alias ws.now i }
 {
-    if !inspect::is_live(ws, i + 1) || !notes[i + 1].marked {
-        return false;
-    }
-    match inspect::class_id(ws, notes, i + 1) {
-        Some(c) => alias_search::mentions_in_body(ws, notes, i + 1, c),
-        None => false,
-    }
+    let at = i + 1;
+    inspect::is_live(ws, at)
+        && notes[at].marked
+        && inspect::class_id(ws, notes, at).is_some_and(|c| mentions_in_body(ws, notes, at, c))
 }
 
 // ---- refusal 7
@@ -151,8 +146,8 @@ fn is_refused_7(ws: &[u32], notes: &[Note], i: usize) -> bool
     requires { (i < length ws.now) × Ends ws.now notes.now 0 × Fits (module' ∷ []) (records_at ws.now 0) × ClassMark ws.now notes.now (i + 1) }
     ensures { result ≡ is_refused7 (label_at ws.now i) (kids_at ws.now i) }
 {
-    if !inspect::is_kind_at(ws, i, Kind::ClassStatement) || !inspect::is_live(ws, i + 1) {
-        return false;
-    }
-    notes[i + 1].marked && !inspect::class_decorated_first(ws, notes, i + 1)
+    inspect::is_kind_at(ws, i, Kind::ClassStatement)
+        && inspect::is_live(ws, i + 1)
+        && notes[i + 1].marked
+        && !inspect::class_decorated_first(ws, notes, i + 1)
 }

@@ -20,6 +20,7 @@ pub fn find_ends(ws: &[u32], notes: &mut [Note])
     requires { (length ws.now ≤ length notes.old) × (length ws.now < 65536) }
     ensures { Ends ws.now notes.new 0 × (length notes.new ≡ length notes.old) }
 {
+    // By place: the note there is written while those behind it are read.
     for i in (0..ws.len()).rev() {
         let n = words::child_count(ws[i]) as usize;
         notes[i].end = behind(ws, notes, i + 1, n) as u16;

@@ -9,6 +9,9 @@ use Rattle.std.specs.declared.option.Option.{Option}
 use Rattle.std.specs.declared.option.Option.TheVariants.{None as none, Some as some}
 use Rattle.std.proofs.Math.Numerals.{add-one}
 use Rattle.words.specs.Word.{word_of}
+use Rattle.words.specs.Kinds.{named, number_other}
+use Rattle.words.specs.declared.kinds.Kind.{Kind}
+use Rattle.words.specs.declared.kinds.Kind.TheVariants.{ClassStatement, ClassExpression, Method, Property, AbstractAccessor}
 use Rattle.records.specs.Forest.{take_f}
 use Rattle.records.specs.Label.{Label, Trees, ◌∶◌, word_at, words, words_append}
 use Rattle.records.specs.Place.{records_at, label_at, arity_at, kids_at, end_of}
@@ -23,7 +26,8 @@ use Rattle.walk_laws.specs.Roles.{role_4, role_20}
 use Rattle.walk_laws.specs.Kinds.{is_element_kind, element_two, class_row_one, class_kids_lem}
 use Rattle.counter.specs.Contract.{elements_from, Counts}
 use Rattle.counter.specs.Steps.{counts_low, counts_high, counts_within, ready_behind, count_none, count_past, count_add, count_other, count_dropped, count_plain, count_member, count_expression, count_declared, count_live, kids_state, below_visit, below_kids, kids_one, arity_20, live_kids, id_kids, found, class_at, elements_at, dead_and, and_none, both_true}
-use Rattle.report_walk.specs.Contract.{key_fresh, decorated_fresh, decorated_state, class_fresh, class_state, more, Takes, report_at, Asks, Reports}
+use Rattle.report_walk.specs.declared.Role.TheVariants.{Other}
+use Rattle.report_walk.specs.Contract.{HasRole, key_fresh, decorated_fresh, decorated_state, class_fresh, class_state, more, Takes, report_at, Asks, Reports}
 use Rattle.report_walk.specs.Fresh.{report_length, report_none, report_past, report_add, report_one, words_expression, words_rest, member_fresh, words_element, words_dead, words_live}
 use Rattle.report_walk.specs.declared.Walk.{Walk}
 
@@ -235,6 +239,11 @@ room_taken i {w} {r} h t =
     (omega (arith, h.0, m, (few i w.state.default w.state).1), omega (arith, h.1, t.wrote.end, (few i w.state.default w.state).0))
 
 -- ---- records
+
+-- a record whose answer is none of these kinds
+pub role_other : {o : Option Kind} (n : ℕ) → o ≡ named n → (o ≡ some ClassStatement → ⊥) → (o ≡ some ClassExpression → ⊥) → (o ≡ some Method → ⊥) → (o ≡ some Property → ⊥) →
+    (o ≡ some AbstractAccessor → ⊥) → HasRole Other n
+role_other n e a b c d f = (number_other ClassStatement e a, number_other ClassExpression e b, number_other Method e c, number_other Property e d, number_other AbstractAccessor e f)
 
 none_words : (xs : List ℕ) (p : Bool) (id : Option ℕ) (s : State) → (xs ++ words (member_fresh false p id s)) ≡ xs
 unfolding member_fresh words

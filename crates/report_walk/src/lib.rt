@@ -3,6 +3,8 @@
 #![tactic(auto)]
 
 ghost use Rattle.std.specs.Prelude.{◌+◌, ◌<◌, ◌≡◌, [], ◌∷◌, true, length, get_or};
+ghost use Rattle.words.specs.declared.kinds.Kind.TheVariants.{ClassStatement, ClassExpression, Class};
+ghost use Rattle.words.specs.Kinds.{number as kind_number};
 ghost use Rattle.records.specs.Label.{◌∶◌};
 ghost use Rattle.records.specs.Ends.{Ends, blank};
 ghost use Rattle.records.specs.Place.{label_at, kids_at};
@@ -98,6 +100,7 @@ pub fn report_record(ws: &[u32], notes: &[Note], a: Around, mut w: Walk, out: &m
     }
 }
 
+#[tactic(auto, using(crate::specs::Steps::role_other, counter::specs::Totals::element_kind))]
 fn role_at(ws: &[u32], at: usize) -> Role
     ensures { HasRole result (label_at ws.now at).kind }
 {
@@ -111,7 +114,7 @@ fn role_at(ws: &[u32], at: usize) -> Role
 
 #[cycle(report)]
 fn report_class_expression(ws: &[u32], notes: &[Note], mut w: Walk, out: &mut [u32]) -> Walk
-    requires { Asks ws.now notes.now w × (w.at < length ws.now) × ((label_at ws.now w.at).kind ≡ 20) }
+    requires { Asks ws.now notes.now w × (w.at < length ws.now) × ((label_at ws.now w.at).kind ≡ kind_number ClassExpression) }
     ensures { (a : Around) → Reports ws.now 1 a w out.old result out.new }
 {
     let around = w.state.default;
@@ -168,7 +171,7 @@ fn put_key_symbol(ws: &[u32], notes: &[Note], at: usize, w: Walk, out: &mut [u32
 
 #[cycle(report)]
 fn report_class_statement(ws: &[u32], notes: &[Note], mut w: Walk, out: &mut [u32]) -> Walk
-    requires { Asks ws.now notes.now w × (w.at < length ws.now) × ((label_at ws.now w.at).kind ≡ 4) }
+    requires { Asks ws.now notes.now w × (w.at < length ws.now) × ((label_at ws.now w.at).kind ≡ kind_number ClassStatement) }
     ensures { (a : Around) → Reports ws.now 1 a w out.old result out.new }
 {
     let at = w.at;
@@ -194,7 +197,7 @@ fn put_class_symbols(
     w: Walk,
     out: &mut [u32],
 ) -> Walk
-    requires { Planned ws.now notes.now × (at + 1 < length ws.now) × ((label_at ws.now (at + 1)).kind ≡ 26) × (at < 67108864) × (w.state.next + 1 < 67108864) × (w.pos + 1 < 67108864) }
+    requires { Planned ws.now notes.now × (at + 1 < length ws.now) × ((label_at ws.now (at + 1)).kind ≡ kind_number Class) × (at < 67108864) × (w.state.next + 1 < 67108864) × (w.pos + 1 < 67108864) }
     ensures { Takes (class_fresh (is_decorated (kids_at ws.now (at + 1))) id (get_or notes.now at blank).marked w.state) (class_state (is_decorated (kids_at ws.now (at + 1))) id (get_or notes.now at blank).marked w.state) w out.old result out.new }
 {
     if !notes[at + 1].marked {

@@ -28,7 +28,8 @@ use Rattle.rewriting.specs.Parts.{any_record, is_refused7}
 use Rattle.rewriting.specs.Answer.{Answer, accepted, refused, turned_back, module_words, report_words, answer_of, lent_after, rewrite_answer, rewrite_lent}
 use Rattle.rewriting.specs.DemandWords.{DemandWords}
 use Rattle.rewriting.proofs.DemandAccepted.{demand_words}
-use Rattle.class_stack.specs.Renaming.{Sub, capacity, Ready as StackReady, entries, subs}
+use Rattle.class_stack.specs.Renaming.{Sub, capacity, entries}
+use Rattle.class_stack.specs.Stack.{subs}
 use Rattle.class_stack.specs.declared.ClassStack.{ClassStack}
 use Rattle.walk_laws.specs.Rows.{visit_at}
 use Rattle.walk_laws.specs.Written.{word_by, written}
@@ -96,11 +97,10 @@ module _ (ws : List ℕ) (ok : refusal ws ≡ 0) where
     start_nest : nest_at ws 0 1 ≤ capacity
     start_nest = omega (arith, start_tree, nest_height (tree_of ws) (well ws ok).fits, (well ws ok).depth)
 
-    pub start_asks : (notes : List Note) → Planned ws notes → Annotated ws notes 0 → StackReady c → Asks ws notes 0 1 (symbols_of ws) c 0 (size (here_at ws 0 1 unlive (begun (symbols_of ws))))
-    start_asks notes p t r = record {
+    pub start_asks : (notes : List Note) → Planned ws notes → Annotated ws notes 0 → Asks ws notes 0 1 (symbols_of ws) c 0 (size (here_at ws 0 1 unlive (begun (symbols_of ws))))
+    start_asks notes p t = record {
       ready = start_ready ws ok notes p;
       noted = t;
-      stack = r;
       deep = omega (arith, start_nest, no_entries c.symbols c.aliases c.depth empty);
       fit = omega (arith, start_size, module_length ws ok, (well ws ok).sized.few);
     }

@@ -13,6 +13,7 @@ ghost use Rattle.rewriter.specs.Numbers.{numbers_of};
 ghost use Rattle.rewriter.specs.Lends.{Lends};
 ghost use Rattle.rewriter.specs.Result.{Writes};
 
+use class_stack::ClassStack;
 use grammar::Refusal;
 use records::Note;
 
@@ -174,5 +175,5 @@ fn write_module(ws: &[u32], notes: &[Note], out: &mut [u32]) -> transform::Walk
     ensures { Writes ws.now out.old out.new result }
 {
     let s = inspect::payload_at(ws, 1);
-    transform::program(ws, notes, s, class_stack::empty(), out)
+    transform::program(ws, notes, s, ClassStack::new(), out)
 }

@@ -1,4 +1,5 @@
 // The rewriting of modules as a definition, with its theorems: see specs/. The two values of the definition that walkers hold as well are declared here.
+// A symbol is a plain number, here and in the code: the definitions speak of numbers, and what bounds one is said where words are made of it.
 #![tactic(auto)]
 
 // The class directly around: is it live, and the symbol of its id.

@@ -1,4 +1,5 @@
-// The symbol report: one word for each fresh symbol of a module's rewriting, every refusal in its order. Reads the words, writes the output only once it is known to be long enough.
+// The symbol report: one word for each fresh symbol of a module's rewriting, every refusal in its order. Reads the words, writes the output only once
+// it is known to be long enough.
 #![tactic(auto)]
 
 ghost use Rattle.std.specs.Prelude.{◌≡◌, leb, length};

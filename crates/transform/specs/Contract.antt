@@ -10,7 +10,8 @@ use Rattle.rewriting.specs.Parts.{is_decorated_member, has_plain_key}
 use Rattle.rewriting.specs.Visit.{visit}
 use Rattle.rewriting.specs.declared.State.{State}
 use Rattle.rewriting.specs.declared.Around.{Around}
-use Rattle.class_stack.specs.Renaming.{capacity, Ready as StackReady, subs}
+use Rattle.class_stack.specs.Renaming.{capacity}
+use Rattle.class_stack.specs.Stack.{subs}
 use Rattle.class_stack.specs.declared.ClassStack.{ClassStack}
 use Rattle.walk_laws.specs.Rows.{visit_at}
 use Rattle.walk_laws.specs.Written.{word_by, written}
@@ -45,7 +46,6 @@ after_at ws at k a s = (visit_at ws at k a s).after
 pub record Asks (ws : List ℕ) (notes : List Note) (at k n : ℕ) (c : ClassStack) (pos len : ℕ) : Type 0 where
   pub ready : Ready ws notes at n
   pub noted : Annotated ws notes at
-  pub stack : StackReady c
   pub deep : c.depth + nest_at ws at k ≤ capacity
   pub fit : pos + len < 67108864
 

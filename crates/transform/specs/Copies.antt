@@ -8,7 +8,6 @@ use Rattle.records.specs.Place.{records_at, label_at, end_of, record_one, end_lo
 use Rattle.output.specs.Overlay.{Wrote, wrote_none, wrote_then}
 use Rattle.rewriting.specs.declared.Around.{Around}
 use Rattle.rewriting.specs.declared.State.{State}
-use Rattle.class_stack.specs.Renaming.{Ready as StackReady}
 use Rattle.class_stack.specs.declared.ClassStack.{ClassStack}
 use Rattle.walk_laws.specs.Written.{written}
 use Rattle.walk_laws.specs.Still.{words_from, written_row, from_first, from_none, still_here, still_after}
@@ -17,7 +16,6 @@ use Rattle.transform.specs.Contract.{word_below, words_of, here_at, after_at, As
 
 -- what the walker that copies asks: a place and an end behind it, and room for the words between them
 pub record Copies (ws : List ℕ) (at e : ℕ) (c : ClassStack) (pos : ℕ) : Type 0 where
-  pub stack : StackReady c
   pub some : at ≤ e
   pub inside : e ≤ length ws
   pub few : length ws ≤ 4096
@@ -33,21 +31,21 @@ pub record Copying (ws : List ℕ) (at e : ℕ) (c : ClassStack) (o : List ℕ) 
   pub rest : words_from (word_below c) ws at (e - at) ≡ done ++ words_from (word_below c) ws i (e - i)
 
 module _ {ws : List ℕ} {at e : ℕ} {c : ClassStack} {pos : ℕ} {o : List ℕ} where
-  pub copying_start : at ≤ e → Copying ws at e c o pos at o pos
-  copying_start h = record { low = (omega arith, h); done = []; wrote = wrote_none o pos; end = omega arith; rest = refl }
+  pub copying_start : {i : ℕ} → i ≡ at → at ≤ e → Copying ws at e c o pos i o pos
+  copying_start {i} z h = subst (λ (j : ℕ). Copying ws at e c o pos j o pos) (sym z) (record { low = (omega arith, h); done = []; wrote = wrote_none o pos; end = omega arith; rest = refl })
 
-  pub copying_next : {i p q k m : ℕ} {o' o'' : List ℕ} → Copying ws at e c o pos i o' p → i < e → k ≡ (label_at ws i).kind → m ≡ (label_at ws i).payload →
-      Wrote o' p (word_below c k m ∷ []) o'' q → Copying ws at e c o pos (i + 1) o'' q
-  copying_next {i} {p} {q} {k} {m} {o'} {o''} a h ke me w =
+  pub copying_next : {i j p q k m : ℕ} {o' o'' : List ℕ} → Copying ws at e c o pos i o' p → i < e → j ≡ i + 1 → k ≡ (label_at ws i).kind → m ≡ (label_at ws i).payload →
+      Wrote o' p (word_below c k m ∷ []) o'' q → Copying ws at e c o pos j o'' q
+  copying_next {i} {j} {p} {q} {k} {m} {o'} {o''} a h next ke me w =
       let x : ℕ = word_below c (label_at ws i).kind (label_at ws i).payload in
       let v : Wrote o' p (x ∷ []) o'' q = subst (λ (y : ℕ). Wrote o' p (y ∷ []) o'' q) (ap (λ (y : ℕ). word_below c y m) ke ∙ ap (word_below c (label_at ws i).kind) me) w in
-      record {
+      subst (λ (n : ℕ). Copying ws at e c o pos n o'' q) (sym next) (record {
         low = (omega (arith, a.low), omega arith);
         done = a.done ++ (x ∷ []);
         wrote = wrote_then a.wrote v;
         end = omega (arith, a.end, w.end, a.low);
         rest = a.rest ∙ ap (a.done ++◌) (from_first (word_below c) ws i e h) ∙ sym (append_assoc a.done (x ∷ []) (words_from (word_below c) ws (i + 1) (e - (i + 1))));
-      }
+      })
 
   pub copying_all : {i p : ℕ} {o' : List ℕ} → Copying ws at e c o pos i o' p → e ≤ i → Wrote o pos (words_from (word_below c) ws at (e - at)) o' p
   copying_all {i} {p} {o'} a h =
@@ -67,7 +65,6 @@ module _ {ws : List ℕ} {notes : List Note} {at : ℕ} {c : ClassStack} {pos : 
 
   pub copies : Copies ws at w.end c pos
   copies = record {
-    stack = f.stack;
     some = omega (arith, t.place, end_low ws at 1);
     inside = omega (arith, t.place, end_high ws at 1, f.ready.inside);
     few = f.ready.few;

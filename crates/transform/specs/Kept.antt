@@ -1,5 +1,5 @@
 -- Records whose word stays, so that what stands in them becomes what it becomes by itself. Assumes nothing.
-use Rattle.std.specs.Prelude.{◌≡◌, refl, Bool, ◌⊎◌, ℕ, ◌+◌, ◌<◌, ◌≤◌, eqb, length, get_or}
+use Rattle.std.specs.Prelude.{◌≡◌, refl, Bool, ◌&&◌, ◌||◌, not, ◌⊎◌, ℕ, ◌+◌, ◌<◌, ◌≤◌, eqb, length, get_or}
 use Rattle.records.specs.Ends.{blank}
 use Rattle.records.specs.declared.Note.{Note}
 use Rattle.std.proofs.Math.Logic.{⊎_elim}
@@ -24,7 +24,7 @@ use Rattle.rewriting.specs.Visit.{visit, visit_one, work, since, own, kept, insi
 use Rattle.rewriting.specs.declared.Around.{Around}
 use Rattle.rewriting.specs.declared.State.{State}
 use Rattle.walk_laws.specs.Slots.{Standing, standing_at, kind_row, row_first}
-use Rattle.walk_laws.specs.Roles.{plain_26}
+use Rattle.walk_laws.specs.Roles.{plain_26, constructor_kind}
 use Rattle.walk_laws.specs.Kinds.{class_inside, class_kind}
 use Rattle.walk_laws.specs.After.{after_plain, after_constructor}
 use Rattle.walk_laws.specs.Bare.{undecorated_here, undecorated_after}
@@ -61,21 +61,22 @@ module _ (l : Label) where
   plain_rest a b c d e f g h i =
       rw (ne_eqb _ 1 a, ne_eqb _ 3 b, ne_eqb _ 33 c, ne_eqb _ 39 d, ne_eqb _ 4 e, ne_eqb _ 20 f, ne_eqb _ 30 g, ne_eqb _ 31 h, ne_eqb _ 32 i)
 
-  pub constructor_30 : l.kind ≡ 30 → is_constructor l ≡ true → role_of l ≡ constructor
+  constructor_role : is_constructor l ≡ true → role_of l ≡ constructor
   unfolding role_of lookup is_constructor is bit
-  constructor_30 e t = let b : bit bit1 l ≡ true = (rw (eq-eqb _ 30 e) at t) in rw (e, b)
+  constructor_role t =
+      let e : l.kind ≡ 30 = constructor_kind l t in
+      let b : bit bit1 l ≡ true = (rw (eq-eqb _ 30 e) at t) in
+      rw (e, b)
 
-  pub member_30 : l.kind ≡ 30 → is_constructor l ≡ false → is_member l ≡ true
+  -- a method, property or accessor: any element of these kinds but a constructor
+  element_member : 30 ≤ l.kind → l.kind < 33 → is_constructor l ≡ false → is_member l ≡ true
   unfolding is_constructor is_member is
-  member_30 e t = let b : bit bit1 l ≡ false = (rw (eq-eqb _ 30 e) at t) in rw (eq-eqb _ 30 e, b)
-
-  pub member_31 : l.kind ≡ 31 → is_member l ≡ true
-  unfolding is_member is
-  member_31 e = rw e
-
-  pub member_32 : l.kind ≡ 32 → is_member l ≡ true
-  unfolding is_member is
-  member_32 e = rw e
+  element_member low high t = go (eqb l.kind 30) refl (eqb l.kind 31) refl
+    where
+      go : (x : Bool) → eqb l.kind 30 ≡ x → (y : Bool) → eqb l.kind 31 ≡ y → ((eqb l.kind 30 && not (bit bit1 l)) || eqb l.kind 31 || eqb l.kind 32) ≡ true
+      go true e y f = let b : bit bit1 l ≡ false = (rw e at t) in rw (e, b)
+      go false e true f = rw (e, f)
+      go false e false f = rw (e, f, eq-eqb l.kind 32 (omega (arith, eqb-false _ 30 e, eqb-false _ 31 f)))
 
 module _ (ws : List ℕ) (at : ℕ) (h : at < length ws) where
   abbrev own_label : Label
@@ -100,18 +101,12 @@ module _ (ws : List ℕ) (at : ℕ) (h : at < length ws) where
     kept_member m = kept_by (λ around s. undecorated_here ws whole at h around s m bare) (λ around s. undecorated_after ws whole at h around s m bare)
 
     -- a method, constructor, property or accessor without decorators
-    pub kept_30 : own_label.kind ≡ 30 → KeptAt ws at
-    kept_30 e = go (is_constructor own_label) refl
+    pub kept_element : 30 ≤ own_label.kind → own_label.kind < 33 → KeptAt ws at
+    kept_element low high = go (is_constructor own_label) refl
       where
         go : (b : Bool) → is_constructor own_label ≡ b → KeptAt ws at
-        go true c = kept_constructor (constructor_30 own_label e c)
-        go false c = kept_member (member_30 own_label e c)
-
-    pub kept_31 : own_label.kind ≡ 31 → KeptAt ws at
-    kept_31 e = kept_member (member_31 own_label e)
-
-    pub kept_32 : own_label.kind ≡ 32 → KeptAt ws at
-    kept_32 e = kept_member (member_32 own_label e)
+        go true c = kept_constructor (constructor_role own_label c)
+        go false c = kept_member (element_member own_label low high c)
 
 -- ---- by the set of kinds and the mark
 
@@ -122,60 +117,27 @@ changing = 558346797082
 not_in : (k n : ℕ) → bit_of changing k ≡ 0 → bit_of changing n ≡ 1 → k ≡ n → ⊥
 not_in k n z o e = let y : ◌≡◌ {A = ℕ} 0 1 = sym z ∙ ap (bit_of changing) e ∙ o in omega arith
 
-in_1 : bit_of changing 1 ≡ 1
-unfolding bit_of
-in_1 = refl
-
-in_3 : bit_of changing 3 ≡ 1
-unfolding bit_of
-in_3 = refl
-
-in_4 : bit_of changing 4 ≡ 1
-unfolding bit_of
-in_4 = refl
-
-in_20 : bit_of changing 20 ≡ 1
-unfolding bit_of
-in_20 = refl
-
-in_33 : bit_of changing 33 ≡ 1
-unfolding bit_of
-in_33 = refl
-
-in_39 : bit_of changing 39 ≡ 1
-unfolding bit_of
-in_39 = refl
-
--- what the mark of a member says
-module _ (ws : List ℕ) (notes : List Note) (at : ℕ) (h : at < length ws) (p : Planned ws notes) where
-  mark_says : (n : ℕ) → (label_at ws at).kind ≡ n → (n ≡ 4 → ⊥) → (n ≡ 26 → ⊥) → (n ≡ 29 → ⊥) → (n ≡ 40 → ⊥) → (get_or notes at blank).marked ≡ is_decorated_member (label_at ws at) (kids_at ws at)
-  mark_says n e a b c d = p.members at h (λ g. a (sym e ∙ g)) (λ g. b (sym e ∙ g)) (λ g. c (sym e ∙ g)) (λ g. d (sym e ∙ g))
-
 module _ (ws : List ℕ) (notes : List Note) (at : ℕ) (h : at < length ws) (whole : Fits (module' ∷ []) (records_at ws 0)) (p : Planned ws notes) (mark : (get_or notes at blank).marked ≡ false) where
-  bare_at : (n : ℕ) → (label_at ws at).kind ≡ n → (n ≡ 4 → ⊥) → (n ≡ 26 → ⊥) → (n ≡ 29 → ⊥) → (n ≡ 40 → ⊥) → is_decorated_member (label_at ws at) (kids_at ws at) ≡ false
-  bare_at n e a b c d = sym (mark_says ws notes at h p n e a b c d) ∙ mark
-
-  pub unmarked_30 : (label_at ws at).kind ≡ 30 → KeptAt ws at
-  unmarked_30 e = kept_30 ws at h whole (bare_at 30 e (λ g. omega arith) (λ g. omega arith) (λ g. omega arith) (λ g. omega arith)) e
-
-  pub unmarked_31 : (label_at ws at).kind ≡ 31 → KeptAt ws at
-  unmarked_31 e = kept_31 ws at h whole (bare_at 31 e (λ g. omega arith) (λ g. omega arith) (λ g. omega arith) (λ g. omega arith)) e
-
-  pub unmarked_32 : (label_at ws at).kind ≡ 32 → KeptAt ws at
-  unmarked_32 e = kept_32 ws at h whole (bare_at 32 e (λ g. omega arith) (λ g. omega arith) (λ g. omega arith) (λ g. omega arith)) e
+  -- of these kinds, a record without the mark
+  pub unmarked_kept : 30 ≤ (label_at ws at).kind → (label_at ws at).kind < 33 → KeptAt ws at
+  unmarked_kept low high = kept_element ws at h whole (sym (p.members at h (λ g. omega arith) (λ g. omega arith) (λ g. omega arith) (λ g. omega arith)) ∙ mark) low high
 
   pub kept_unmarked : bit_of changing (label_at ws at).kind ≡ 0 → KeptAt ws at
+  unfolding bit_of
   kept_unmarked z = go (eqb (label_at ws at).kind 30) refl (eqb (label_at ws at).kind 31) refl (eqb (label_at ws at).kind 32) refl
     where
       no : (n : ℕ) → bit_of changing n ≡ 1 → (label_at ws at).kind ≡ n → ⊥
       no n o e = not_in (label_at ws at).kind n z o e
 
+      member : (n : ℕ) → 30 ≤ n → n < 33 → eqb (label_at ws at).kind n ≡ true → KeptAt ws at
+      member n l u e = let k : (label_at ws at).kind ≡ n = eqb-true _ n e in unmarked_kept (omega arith) (omega arith)
+
       go : (x : Bool) → eqb (label_at ws at).kind 30 ≡ x → (y : Bool) → eqb (label_at ws at).kind 31 ≡ y → (w : Bool) → eqb (label_at ws at).kind 32 ≡ w → KeptAt ws at
-      go true e y f w g = unmarked_30 (eqb-true _ 30 e)
-      go false e true f w g = unmarked_31 (eqb-true _ 31 f)
-      go false e false f true g = unmarked_32 (eqb-true _ 32 g)
+      go true e y f w g = member 30 (omega arith) (omega arith) e
+      go false e true f w g = member 31 (omega arith) (omega arith) f
+      go false e false f true g = member 32 (omega arith) (omega arith) g
       go false e false f false g =
-          kept_plain ws at h (plain_rest (label_at ws at) (no 1 in_1) (no 3 in_3) (no 33 in_33) (no 39 in_39) (no 4 in_4) (no 20 in_20) (eqb-false _ 30 e) (eqb-false _ 31 f) (eqb-false _ 32 g))
+          kept_plain ws at h (plain_rest (label_at ws at) (no 1 refl) (no 3 refl) (no 33 refl) (no 39 refl) (no 4 refl) (no 20 refl) (eqb-false _ 30 e) (eqb-false _ 31 f) (eqb-false _ 32 g))
 
   -- the same by the word
   pub kept_word : (w : ℕ) → w ≡ get_or ws at 0 → bit_of changing (kind_of w) ≡ 0 → KeptAt ws at
@@ -228,12 +190,3 @@ kept_below ws whole at h = ⊎_elim (λ e. kept_expression ws whole at h e) (λ 
 pub list_kind : (l : Label) → (l.kind ≡ 3) ⊎ ((l.kind ≡ 33) ⊎ (l.kind ≡ 39)) → role_of l ≡ list_role
 unfolding role_of lookup
 list_kind l h = ⊎_elim (λ e. rw e) (λ g. ⊎_elim (λ e. rw e) (λ e. rw e) g) h
-
-module _ (ws : List ℕ) (notes : List Note) (at : ℕ) (h : at < length ws) (whole : Fits (module' ∷ []) (records_at ws 0)) (p : Planned ws notes) where
-  pub sort_unmarked : 30 ≤ (label_at ws at).kind → (label_at ws at).kind < 33 → (get_or notes at blank).marked ≡ false → KeptAt ws at
-  sort_unmarked l u z = go (eqb (label_at ws at).kind 30) refl (eqb (label_at ws at).kind 31) refl
-    where
-      go : (x : Bool) → eqb (label_at ws at).kind 30 ≡ x → (y : Bool) → eqb (label_at ws at).kind 31 ≡ y → KeptAt ws at
-      go true e y f = unmarked_30 ws notes at h whole p z (eqb-true _ 30 e)
-      go false e true f = unmarked_31 ws notes at h whole p z (eqb-true _ 31 f)
-      go false e false f = unmarked_32 ws notes at h whole p z (omega (arith, eqb-false _ 30 e, eqb-false _ 31 f))

@@ -8,16 +8,17 @@ use Rattle.std.proofs.lemmas.Option.{none-some, same_Some}
 use Rattle.std.specs.declared.option.Option.{Option}
 use Rattle.std.specs.declared.option.Option.TheVariants.{None as none, Some as some}
 use mathlib.Core.List.{List, [], ◌∷◌}
-use Prim.Native.Nat.{ℕ, zero, suc, ◌+◌, ◌%◌, ◌≤◌}
+use Prim.Native.Nat.{ℕ, zero, suc, ◌+◌, ◌%◌, ◌<◌, ◌≤◌}
 use native.Mathlib.Omega.{arith}
 use Rattle.std.proofs.Math.ListN.{length}
-use Rattle.words.specs.Word.{bit0}
+use Rattle.words.specs.Word.{bit0, kind_of, payload_of, word_of, kind_of_lem, payload_of_lem}
 use Rattle.records.specs.Label.{is}
 use Rattle.records.specs.Place.{label_at, kids_at, end_of}
 use Rattle.output.specs.Overlay.{Wrote}
 use Rattle.rewriting.specs.Parts.{is_decorated_member, has_plain_key}
 use Rattle.rewriting.specs.declared.Around.{Around}
-use Rattle.class_stack.specs.Renaming.{Sub, subs}
+use Rattle.class_stack.specs.Renaming.{Sub}
+use Rattle.class_stack.specs.Stack.{subs}
 use Rattle.class_stack.specs.declared.ClassStack.{ClassStack}
 use Rattle.walk_laws.specs.Written.{word_by}
 use Rattle.walk_laws.specs.Calls.{symbol_of, prefix_words, name_word}
@@ -28,6 +29,13 @@ use Rattle.transform.specs.Contract.{word_below, takes_key}
 -- the same words
 pub wrote_as : {o : List ℕ} {at : ℕ} {ws vs o' : List ℕ} {n : ℕ} → ws ≡ vs → Wrote o at ws o' n → Wrote o at vs o' n
 wrote_as {o} {at} {o' = o'} {n} e w = subst (λ (l : List ℕ). Wrote o at l o' n) e w
+
+-- the word of a kind and a payload
+pub wrote_made : {o o' : List ℕ} {at n w : ℕ} (c : ClassStack) (k p : ℕ) → w ≡ word_of k p → p < 67108864 → Wrote o at (word_below c (kind_of w) (payload_of w) ∷ []) o' n → Wrote o at (word_below c k p ∷ []) o' n
+wrote_made {w = w} c k p e h =
+    let f : kind_of w ≡ k = ap kind_of e ∙ kind_of_lem k p h in
+    let g : payload_of w ≡ p = ap payload_of e ∙ payload_of_lem k p h in
+    wrote_as (ap (λ (x : ℕ). word_below c x (payload_of w) ∷ []) f ∙ ap (λ (x : ℕ). word_below c k x ∷ []) g)
 
 -- ---- a symbol, or none
 

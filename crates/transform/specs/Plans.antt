@@ -21,7 +21,6 @@ use Rattle.rewriting.specs.declared.Around.{Around}
 use Rattle.rewriting.specs.declared.State.{State}
 use Rattle.rewriting.proofs.Facts.{counter}
 use Rattle.inspect.specs.Row.{Test, count_row, count_none}
-use Rattle.inspect.specs.Child.{kids_row}
 use Rattle.inspect.specs.Class.{count_called}
 use Rattle.walk_laws.specs.Rows.{visit_at, fresh, row_none}
 use Rattle.walk_laws.specs.After.{mentioned}
@@ -157,17 +156,16 @@ module _ (s : State) (m : Bool) (room : s.next + 1 < 67108864) (few : Small s.de
       symbol none = unfold symbol_of in refl
       symbol (some d) = unfold symbol_of in refl
 
--- b: the place of its body; k: the number of elements; x: whether it is decorated
-pub plan_from : {ws : List ℕ} {notes : List Note} {at : ℕ} {s : State} {g : ClassPlan} (b k : ℕ) (x : Bool) → kids_at ws b ≡ elements_of (kids_at ws (at + 1)) → k ≡ arity_at ws b →
-    g.id ≡ id_of (kids_at ws (at + 1)) → x ≡ is_decorated (kids_at ws (at + 1)) → g.private ≡ has_private_in (kids_at ws (at + 1)) →
-    g.fixed ≡ has_static (take_f k (records_at ws (b + 1))) → (g.private ≡ true → g.calls ≡ count_called (kids_at ws b)) →
+-- b: the place of its body; x: whether it is decorated
+pub plan_from : {ws : List ℕ} {notes : List Note} {at : ℕ} {s : State} {g : ClassPlan} (b : ℕ) (x : Bool) → kids_at ws b ≡ elements_of (kids_at ws (at + 1)) →
+    g.id ≡ id_of (kids_at ws (at + 1)) → x ≡ is_decorated (kids_at ws (at + 1)) → g.private ≡ has_private_in (kids_at ws (at + 1)) → g.fixed ≡ has_static (kids_at ws b) → (g.private ≡ true → g.calls ≡ count_called (kids_at ws b)) →
     SymbolsOf x (plan_of x g.id s (get_or notes at blank).marked) g → PlanFrom ws notes at s g
-plan_from {ws} {notes} {at} {s} {g} b k x e l i d p y c f =
+plan_from {ws} {notes} {at} {s} {g} b x e i d p y c f =
     let m : Bool = (get_or notes at blank).marked in
     record {
       id = i;
       private = p;
-      fixed = y ∙ ap has_static (kids_row ws b k l ∙ e);
+      fixed = y ∙ ap has_static e;
       calls = λ t. c t ∙ ap count_called e;
       symbols = subst (λ (z : Bool). SymbolsOf z (plan_of z (id_of (kids_at ws (at + 1))) s m) g) d (subst (λ (o : Option ℕ). SymbolsOf x (plan_of x o s m) g) i f);
     }

@@ -57,7 +57,6 @@ module _ {ws : List ℕ} {notes : List Note} {at k n : ℕ} {c : ClassStack} {po
   asks_row a s j i s₁ q l z h t g = record {
     ready = ready_on f.ready (end_of ws at j) s₁.next (omega (arith, end_high ws at j, f.ready.inside)) (omega (arith, state_low ws at j a s s₁ t, z)) (omega (arith, state_high ws at j a s s₁ t, z));
     noted = noted_on ws notes at (end_of ws at j) (end_low ws at j) f.noted;
-    stack = f.stack;
     deep = omega (arith, f.deep, nest_part ws at j i k h);
     fit = g;
   }
@@ -75,14 +74,13 @@ module _ {ws : List ℕ} {notes : List Note} {at k n : ℕ} {c : ClassStack} {po
   asks_kids q l e h g = record {
     ready = ready_on f.ready (at + 1) n (omega arith) (omega arith) (omega arith);
     noted = noted_next;
-    stack = f.stack;
     deep = omega (arith, f.deep, ap (nest_at ws at) e, nest_kids ws at h);
     fit = g;
   }
 
   -- the same with other words to write
   pub asks_words : (q l : ℕ) → q + l < 67108864 → Asks ws notes at k n c q l
-  asks_words q l g = record { ready = f.ready; noted = f.noted; stack = f.stack; deep = f.deep; fit = g }
+  asks_words q l g = record { ready = f.ready; noted = f.noted; deep = f.deep; fit = g }
 
 -- ---- rows
 

@@ -53,7 +53,6 @@ module _ {ws : List ℕ} {notes : List Note} {at k n : ℕ} {c : ClassStack} {po
   asks_first h = record {
     ready = f.ready;
     noted = f.noted;
-    stack = f.stack;
     deep =
         let e : 1 + (k - 1) ≡ k = omega arith in
         let x : nest_at ws at k ≡ max (nest_at ws at 1) (nest_at ws (end_of ws at 1) (k - 1)) = ap (nest_at ws at) (sym e) ∙ nest_add ws at 1 (k - 1) in
@@ -563,3 +562,16 @@ module _ (ws : List ℕ) (at : ℕ) (a : Around) (s : State) (c : ClassStack) {i
   decorators_done j e y k =
       let x : indexed j (here_at ws (at + 2) i a s) ≡ indexed j (here_at ws (at + 2) (arity_at ws (at + 1)) a s) = ap (λ (n : ℕ). indexed j (here_at ws (at + 2) n a s)) e in
       (record { wrote = wrote_as (ap (words_of c) x) y.moved.wrote; place = k.place; state = counts_after ws at 1 a s k }, y.number ∙ ap (λ (f : Trees). m + count_f f) x)
+
+-- ---- a round of `calls`
+
+-- the element at `at`, and what a walker of it asks
+pub record Element (ws : List ℕ) (notes : List Note) (at : ℕ) (a : Around) (s : State) (c : ClassStack) (pos : ℕ) : Type 0 where
+  pub inside : at < length ws
+  pub allowed : Allowed element (label_at ws at)
+  pub asks : Asks ws notes at 1 s.next c pos (size (calls_at ws at 1 a s))
+
+-- the words of its call, if it is a decorated member; r: what stands behind it
+pub record MemberCall (ws : List ℕ) (at : ℕ) (a : Around) (s : State) (c : ClassStack) (r : Counted) : Type 0 where
+  pub decorated : is_decorated_member (label_at ws at) (kids_at ws at) ≡ true
+  pub words : size (calls_at ws at 1 a s) ≡ 3 + size (entries (word_below c) ws a at s) + length (argument_words (word_below c) ws a at r.state)

@@ -25,7 +25,7 @@ use Rattle.grammar.specs.WellFormed.{Fits}
 use Rattle.rewriting.specs.Parts.{is_empty, of_parameters, is_constructor, is_decorated_member, is_live, has_private_in, has_constructor, first_constructor, bare_first, is_decorated}
 use Rattle.rewriting.specs.declared.State.{State}
 use Rattle.rewriting.specs.declared.Around.{Around}
-use Rattle.class_stack.specs.Renaming.{capacity, Ready as StackReady}
+use Rattle.class_stack.specs.Renaming.{capacity}
 use Rattle.class_stack.specs.declared.ClassStack.{ClassStack}
 use Rattle.inspect.specs.Row.{any_row, before, before_place, before_all, before_others}
 use Rattle.inspect.specs.Child.{kind_within}
@@ -113,7 +113,7 @@ module _ {ws : List ℕ} {at n : ℕ} {g : ClassPlan} (p : Plans ws at n g) (c :
       go true e = unfold block_of block in rw (p.calls e, p.private, decorated_plan, empty_count (queue ws at n))
       go false e = unfold block_of block in rw (← p.private, e)
 
-  -- the words of the block behind its elements, rest being those behind the 33's
+  -- the words of the block behind its elements, rest being those behind the static block's
   block_words_lem : (rest : List ℕ) → cond (block ws at n) (word_below c 33 g.calls ∷ rest) [] ≡ cond (block ws at n) (word_below c 33 (count_f (queue ws at n)) ∷ rest) []
   block_words_lem rest = go g.private refl
     where
@@ -434,8 +434,8 @@ module _ {ws : List ℕ} {notes : List Note} {b : ℕ} {c : ClassStack} {pos : �
       block_is : block_by g c ws b s ≡ word_below c 33 g.calls ∷ words_of c (calls_at ws (b + 1) (arity_at ws b) (scope_of g) s)
       block_is = unfold block_by in rw e
 
-  pub stack_asks : (q : ℕ) → StackReady r → r.depth ≤ c.depth + 1 → c.depth + 1 + nest_at ws b 1 ≤ capacity → q ≡ pos + 1 + length (front_words g c) → Asks ws notes b 1 s.next r q (length (elements_by g r ws b s))
-  stack_asks q t d n e = record { ready = f.ready; noted = f.noted; stack = t; deep = omega arith; fit = omega (arith, body_room) }
+  pub stack_asks : (q : ℕ) → r.depth ≤ c.depth + 1 → c.depth + 1 + nest_at ws b 1 ≤ capacity → q ≡ pos + 1 + length (front_words g c) → Asks ws notes b 1 s.next r q (length (elements_by g r ws b s))
+  stack_asks q d n e = record { ready = f.ready; noted = f.noted; deep = omega arith; fit = omega (arith, body_room) }
 
   -- without and with a block behind the elements
   module _ {o o₁ o₂ o₃ : List ℕ} {m p₁ p₂ p₃ : ℕ} (me : m ≡ arity_at ws b + (from_bool (front_of g) + from_bool (block_of g)))
@@ -685,11 +685,10 @@ module _ {ws : List ℕ} {notes : List Note} {at n : ℕ} {c : ClassStack} {pos 
       entries_room =
           omega (arith, f.fit, assignment_length, w₁.end, w₂.moved.wrote.end, length_words c (here_at ws (at + 3) k (scope_of g) (begun n)), ds_size, ap size first_same)
 
-      pub assignment_entries : StackReady r → r.depth ≤ c.depth + 1 → Asks ws notes b 1 s.next r q.pos (size (first_by g r ws b s))
-      assignment_entries t d = record {
+      pub assignment_entries : r.depth ≤ c.depth + 1 → Asks ws notes b 1 s.next r q.pos (size (first_by g r ws b s))
+      assignment_entries d = record {
         ready = (body_asks f h kind p b s be se 0 0 (omega arith)).ready;
         noted = (body_asks f h kind p b s be se 0 0 (omega arith)).noted;
-        stack = t;
         deep = omega (arith, body_deep f h kind p b s be se);
         fit = omega (arith, entries_room);
       }

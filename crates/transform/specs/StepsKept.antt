@@ -79,7 +79,6 @@ module _ {ws : List ℕ} {notes : List Note} {at : ℕ} {c : ClassStack} (a : Ar
       record {
         ready = ready_on f.ready (at + 1) s.next (omega arith) (omega arith) (omega arith);
         noted = noted_on ws notes at (at + 1) (omega arith) f.noted;
-        stack = f.stack;
         deep = omega (arith, f.deep, row_nest ws at t a s i);
         fit = omega (arith, f.fit, z, e, length_words c (here_at ws at (1 + i) a s), length_words c (here_at ws (at + 1) (arity_at ws at + i) a s));
       }
@@ -123,7 +122,6 @@ module _ {ws : List ℕ} {notes : List Note} {at k : ℕ} {a : Around} {s : Stat
       record {
         ready = g.asks.ready;
         noted = g.asks.noted;
-        stack = g.asks.stack;
         deep = omega (arith, g.asks.deep, nest_add ws q 1 (j - 1), e);
         fit = omega (arith, g.asks.fit, first_le ws q j a s₁ (omega arith));
       }

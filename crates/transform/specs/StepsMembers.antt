@@ -93,7 +93,7 @@ module _ (ws : List ℕ) (at : ℕ) (a : Around) (s : State) where
       state = after_more ws at a s j k v.at v.state x.place x.state ∙ y.state;
     }
 
--- ---- a 36
+-- ---- parameters
 
 module _ (ws : List ℕ) (at : ℕ) (a : Around) (s : State) (c : ClassStack) where
   parameters_words_lem : parameters_words (word_below c) ws a at s ≡ word_below c 36 (label_at ws at).payload ∷ words_of c (bare_parameters (here_at ws (at + 1) (arity_at ws at) a s))
@@ -123,7 +123,7 @@ module _ (ws : List ℕ) (at : ℕ) (a : Around) (s : State) (c : ClassStack) wh
     pub parameter_place : (label_at ws at).kind ≡ 36 → i < arity_at ws at → (v.at < length ws) × ((label_at ws v.at).kind ≡ 37)
     parameter_place e b = subst (λ (y : ℕ). (y < length ws) × ((label_at ws y).kind ≡ 37)) (sym x.place) (parameters_nth ws at f.ready.whole h i e b)
 
-    -- behind all of them; w: the payload of the 36
+    -- behind all of them; w: the payload of the parameters
     pub moved_parameters : {o₀ : List ℕ} (w : ℕ) → (label_at ws at).kind ≡ 36 → i ≡ arity_at ws at → w ≡ (label_at ws at).payload → Wrote o₀ pos (word_below c 36 w ∷ []) o p₀ →
         Moved (parameters_words (word_below c) ws a at s) (end_of ws at 1) (after_at ws at 1 a s) o₀ pos o₁ v
     moved_parameters w k e g y = record {
@@ -136,9 +136,9 @@ module _ (ws : List ℕ) (at : ℕ) (a : Around) (s : State) (c : ClassStack) wh
       state = parameters_after h k ∙ ap (λ (m : ℕ). after_at ws (at + 1) m a s) (sym e) ∙ x.state;
     }
 
--- ---- a 37
+-- ---- a parameter
 
--- d: the state behind its 28
+-- d: the state behind its decorators
 module _ (ws : List ℕ) (at : ℕ) (a : Around) (s : State) (c : ClassStack) (whole : Fits (module' ∷ []) (records_at ws 0)) (h : at < length ws) (k : (label_at ws at).kind ≡ 37) where
   parameter_first : Marked ws at
   parameter_first = parameter_marked ws at whole h k
@@ -168,7 +168,7 @@ module _ (ws : List ℕ) (at : ℕ) (a : Around) (s : State) (c : ClassStack) (w
     parameter_state =
         parameter_after ws a at s parameter_first h k ∙ second ws at a s x n e λ (q m : ℕ) (t : State). (visit_at ws q (m - 1) a t).after
 
-    -- w: the payload of the 37
+    -- w: the payload of the parameter
     pub moved_parameter : {o o₁ o₂ o₃ : List ℕ} {pos p₁ p₂ m : ℕ} {r : Walk} (w : ℕ) → w ≡ (label_at ws at).payload → Wrote o pos (word_below c 37 w ∷ []) o₁ p₁ → Wrote o₁ p₁ (word_below c 28 0 ∷ []) o₂ p₂ →
         Emitted ws d.at (n - 1) a d.state c o₂ p₂ m o₃ r → Bared ws at 1 a s c o pos o₃ r
     moved_parameter w g y z r = record {
@@ -178,6 +178,13 @@ module _ (ws : List ℕ) (at : ℕ) (a : Around) (s : State) (c : ClassStack) (w
       place = r.moved.place ∙ sym (marked_end ws at h parameter_first ∙ second ws at a s x n e λ (q m : ℕ) (t : State). end_of ws q (m - 1));
       state = parameter_state ∙ r.moved.state;
     }
+
+-- a round of `parameters`: the parameter at `at`, and what the walker of it asks
+pub record ParameterHere (ws : List ℕ) (notes : List Note) (at : ℕ) (a : Around) (s : State) (c : ClassStack) (pos : ℕ) : Type 0 where
+  pub inside : at < length ws
+  pub kind : (label_at ws at).kind ≡ 37
+  pub marked : Marked ws at
+  pub asks : Asks ws notes at 1 s.next c pos (size (bare_parameters (here_at ws at 1 a s)))
 
 -- ---- elements by kind
 
@@ -199,7 +206,7 @@ element_keyed ws at whole h e = go (eqb (label_at ws at).kind 30) refl
 -- ---- from the key on
 
 module _ (ws : List ℕ) (a : Around) (c : ClassStack) (n : ℕ) where
-  -- the 36 at p and what stands behind it, of a method with n children; t: the state in front of the 36
+  -- the parameters at p and what stands behind them, of a method with n children; t: the state in front of them
   unfoldable behind_key : ℕ → State → List ℕ
   behind_key p t =
       parameters_words (word_below c) ws a p t ++ written (word_below c) (visit_at ws (end_of ws p 1) (n - 3) a (visit_at ws p 1 a t).after).here
@@ -223,7 +230,7 @@ module _ (ws : List ℕ) (a : Around) (c : ClassStack) (n : ℕ) where
         ap (λ (y : State). written (word_below c) (visit_at ws (end_of ws p 1) (n - 3) a y).here) (t)
         ∙ ap (λ (y : ℕ). written (word_below c) (visit_at ws y (n - 3) a s₁).here) (sym x)
 
--- d: the state behind the 28
+-- d: the state behind the decorators
 module _ (ws : List ℕ) (at : ℕ) (a : Around) (s : State) (c : ClassStack) {d : Counted} (x : Counts ws (at + 1) 1 a s d) (n : ℕ) (e : n ≡ arity_at ws at) where
   behind_words_lem : (b : Bool) → is 30 (label_at ws at) ≡ b → behind_words ws at a s c ≡
       cond b (method_words (word_below c) ws a n d.at d.state) (written (word_below c) (visit_at ws d.at (n - 1) a d.state).here)

@@ -1,6 +1,8 @@
 // Writes what the records of a module become (rules 1 to 10). Reads the words, writes the output, reads nothing back from it.
 // The words, their notes and the output are parameters beside the walk, not fields of it: a walk is copied at each level, and calls go on from an older one,
 // which a walk with a lent output couldn't be. So a walk that takes its place from one and its words from another names the fields.
+// The words and the notes are two parameters: `Asks` says in one clause what a walker needs of both, and the clauses of what is written speak of the words
+// alone. A symbol is a plain number, not a struct with its bound: the definitions speak of numbers, and they share `Around` and `State` with the code.
 #![tactic(auto)]
 
 ghost use Rattle.std.specs.Prelude.{◌≡◌, true, false, not, cond, [], ◌∷◌, ℕ, ◌+◌, ◌-◌, ◌<◌, ◌≤◌, eqb, length, get_or, replicate, IsSome, IsSomeAnd};
@@ -9,6 +11,7 @@ ghost use Rattle.std.specs.Option.{option_or};
 ghost use Rattle.std.specs.declared.option.Option.TheVariants.{None, Some};
 ghost use Rattle.words.specs.Word.{kind_of, payload_of, bit0};
 ghost use Rattle.words.specs.Kinds.{number};
+ghost use Rattle.words.specs.declared.kinds.Kind.TheVariants.{ClassStatement, Assignment, PrototypeOf, Identifier, Class, Body, Property, Parameters, Parameter, Null, VoidZero};
 ghost use Rattle.records.specs.Forest.{take_f, count_f, size};
 ghost use Rattle.records.specs.Ends.{Ends, blank};
 ghost use Rattle.records.specs.Place.{records_at, label_at, arity_at, kids_at, end_of};
@@ -16,7 +19,7 @@ ghost use Rattle.output.specs.Overlay.{Wrote};
 ghost use Rattle.grammar.specs.Grammar.{element, module'};
 ghost use Rattle.grammar.specs.WellFormed.{Allowed, Fits};
 ghost use Rattle.rewriting.specs.Parts.{plain, list, constructor, role_of, bare_parameters, indexed, of_parameters, is_decorated_member, has_plain_key, id_of, has_private_in, is_live};
-ghost use Rattle.class_stack.specs.Renaming.{capacity, Ready as StackReady};
+ghost use Rattle.class_stack.specs.Renaming.{capacity};
 ghost use Rattle.inspect.specs.Class.{count_called};
 ghost use Rattle.walk_laws.specs.Still.{words_from};
 ghost use Rattle.walk_laws.specs.Slots.{RowFits};
@@ -57,17 +60,25 @@ const CHANGING: u64 = 1 << Kind::Module as u32
 
 // ---- words
 
-// One word, under the classes around.
-fn put(c: ClassStack, kind: Kind, p: u32, out: &mut [u32], pos: usize) -> usize
-    requires { StackReady c × (pos < 4294967296) × (p < 67108864) }
-    ensures { Wrote out.old pos (word_below c (number kind) p ∷ []) out.new result }
+// The word w, under the classes around.
+fn put_word(c: ClassStack, w: u32, out: &mut [u32], pos: usize) -> usize
+    requires { pos < 4294967296 }
+    ensures { Wrote out.old pos (word_below c (kind_of w) (payload_of w) ∷ []) out.new result }
 {
-    output::put(out, pos, class_stack::word(c, u32::from(kind), p))
+    output::put(out, pos, c.word(w))
 }
 
-// A word with the symbol p, if there is one.
+// The word of a kind and a payload, under the classes around.
+fn put(c: ClassStack, kind: Kind, p: u32, out: &mut [u32], pos: usize) -> usize
+    requires { (pos < 4294967296) × (p < 67108864) }
+    ensures { Wrote out.old pos (word_below c (number kind) p ∷ []) out.new result }
+{
+    put_word(c, words::word_of(u32::from(kind), p), out, pos)
+}
+
+// The same with the symbol p, if there is one.
 fn put_optional(c: ClassStack, kind: Kind, p: Option<u32>, out: &mut [u32], pos: usize) -> usize
-    requires { StackReady c × (pos < 4294967296) × Small p }
+    requires { (pos < 4294967296) × Small p }
     ensures { Wrote out.old pos (optional (word_below c) (number kind) p) out.new result }
 {
     match p {
@@ -76,27 +87,10 @@ fn put_optional(c: ClassStack, kind: Kind, p: Option<u32>, out: &mut [u32], pos:
     }
 }
 
-// The word w with the payload p, under the classes around.
-fn put_as(c: ClassStack, w: u32, p: u32, out: &mut [u32], pos: usize) -> usize
-    requires { StackReady c × (pos < 4294967296) × (p < 67108864) }
-    ensures { Wrote out.old pos (word_below c (kind_of w) p ∷ []) out.new result }
-{
-    output::put(out, pos, class_stack::word(c, words::kind_of(w), p))
-}
-
-// The word w, under the classes around.
-#[tactic(auto, using(words::specs::Word::payload_lt))]
-fn copy_word(c: ClassStack, w: u32, out: &mut [u32], pos: usize) -> usize
-    requires { StackReady c × (pos < 4294967296) }
-    ensures { Wrote out.old pos (word_below c (kind_of w) (payload_of w) ∷ []) out.new result }
-{
-    put_as(c, w, words::payload_of(w), out, pos)
-}
-
 // ---- records
 
-// A module: its statements are counted again, and its 40 holds the next fresh symbol (rule 1). Both words are put in front last. A module stands at the
-// first place alone; next is the first fresh symbol, c an empty stack.
+// A module: its statements are counted again, and its word of symbols holds the next fresh symbol (rule 1). Both words are put in front last. A module
+// stands at the first place alone; next is the first fresh symbol, c an empty stack.
 pub fn program(ws: &[u32], notes: &[Note], next: u32, c: ClassStack, out: &mut [u32]) -> Walk
     requires { Asks ws.now notes.now 0 1 next c 0 (size (here_at ws.now 0 1 unlive (begun next))) × (0 < length ws.now) }
     ensures { Emitted ws.now 0 1 unlive (begun next) c out.old 0 0 out.new result }
@@ -207,8 +201,8 @@ fn copied(ws: &[u32], at: usize, e: usize, c: ClassStack, out: &mut [u32], pos: 
     ensures { Wrote out.old pos (words_from (word_below c) ws.now at (e - at)) out.new result }
 {
     let mut p = pos;
-    for i in at..e {
-        p = copy_word(c, inspect::word_at(ws, i), out, p);
+    for &w in &ws[at..e] {
+        p = put_word(c, w, out, p);
     }
     p
 }
@@ -222,7 +216,7 @@ fn kept(ws: &[u32], notes: &[Note], a: Around, w: Walk, c: ClassStack, out: &mut
 {
     let mut k = inspect::children_at(ws, w.at);
     let mut v = w;
-    v.pos = copy_word(c, inspect::word_at(ws, w.at), out, w.pos);
+    v.pos = put_word(c, inspect::word_at(ws, w.at), out, w.pos);
     v.at += 1;
     // Not a `for`: a record that stays adds those in it to the ones that are left.
     while k != 0 {
@@ -242,7 +236,7 @@ fn kept(ws: &[u32], notes: &[Note], a: Around, w: Walk, c: ClassStack, out: &mut
             continue;
         }
         if is_kept(ws, notes, at) {
-            v.pos = copy_word(c, inspect::word_at(ws, at), out, v.pos);
+            v.pos = put_word(c, inspect::word_at(ws, at), out, v.pos);
             k = k - 1 + inspect::children_at(ws, at);
             v.at += 1;
             continue;
@@ -261,7 +255,7 @@ fn is_kept(ws: &[u32], notes: &[Note], at: usize) -> bool
     requires { Planned ws.now notes.now × Fits (module' ∷ []) (records_at ws.now 0) × (at < length ws.now) }
     ensures { result ≡ true → KeptAt ws.now at }
 {
-    words::kind_bit(CHANGING, inspect::word_at(ws, at)) == 0 && !notes[at].marked
+    !words::is_in(inspect::word_at(ws, at), CHANGING) && !notes[at].marked
 }
 
 // A list of statements, counted again: its word is put in front last.
@@ -277,7 +271,8 @@ fn list(ws: &[u32], notes: &[Note], a: Around, w: Walk, c: ClassStack, out: &mut
         ..w
     };
     let r = records(ws, notes, inspect::children_at(ws, w.at), a, v, c, out);
-    put_as(c, inspect::word_at(ws, w.at), r.count, out, w.pos);
+    let counted = words::word_of(words::kind_of(inspect::word_at(ws, w.at)), r.count);
+    put_word(c, counted, out, w.pos);
     Walk {
         count: w.count + 1,
         ..r
@@ -290,7 +285,7 @@ fn class(ws: &[u32], notes: &[Note], a: Around, w: Walk, c: ClassStack, out: &mu
     requires { Asks ws.now notes.now w.at 1 w.state.next c w.pos (size (here_at ws.now w.at 1 a w.state)) × (w.count ≤ w.pos) × (w.at < length ws.now) × StaysAt ws.now w.at }
     ensures { Emitted ws.now w.at 1 a w.state c out.old w.pos w.count out.new result }
 {
-    let pos = copy_word(c, inspect::word_at(ws, w.at), out, w.pos);
+    let pos = put_word(c, inspect::word_at(ws, w.at), out, w.pos);
     let v = Walk {
         at: w.at + 1,
         pos,
@@ -311,7 +306,7 @@ fn class(ws: &[u32], notes: &[Note], a: Around, w: Walk, c: ClassStack, out: &mu
     }
 }
 
-// The class below the 20 or the 4 at `at`, as the class around what stands in it.
+// The class below the class expression or statement at `at`, as the class around what stands in it.
 fn scope_below(ws: &[u32], notes: &[Note], at: usize) -> Around
     requires { Ends ws.now notes.now 0 × (at < length ws.now) × (at < 4294967296) }
     ensures { ScopeBelow ws.now at result }
@@ -330,14 +325,10 @@ fn scope_below(ws: &[u32], notes: &[Note], at: usize) -> Around
 
 // Is neither the class of the statement at `at` decorated, nor a member of it?
 fn is_plain(ws: &[u32], notes: &[Note], at: usize) -> bool
-    requires { Planned ws.now notes.now × Fits (module' ∷ []) (records_at ws.now 0) × (at < length ws.now) × ((label_at ws.now at).kind ≡ 4) }
+    requires { Planned ws.now notes.now × Fits (module' ∷ []) (records_at ws.now 0) × (at < length ws.now) × ((label_at ws.now at).kind ≡ number ClassStatement) }
     ensures { result ≡ is_plain (kids_at ws.now (at + 1)) }
 {
-    if notes[at + 1].marked {
-        return false;
-    }
-    let b = inspect::class_body(ws, notes, at + 1);
-    !notes[b].marked
+    !notes[at + 1].marked && !notes[inspect::class_body(ws, notes, at + 1)].marked
 }
 
 // ---- members (rules 2 to 5)
@@ -350,7 +341,7 @@ fn member(ws: &[u32], notes: &[Note], a: Around, w: Walk, c: ClassStack, out: &m
 {
     let n = inspect::children_at(ws, w.at);
     let whole = counter::count_record(ws, notes, w.at, a, w.state);
-    let p1 = copy_word(c, inspect::word_at(ws, w.at), out, w.pos);
+    let p1 = put_word(c, inspect::word_at(ws, w.at), out, w.pos);
     let p2 = put(c, Kind::Decorators, 0, out, p1);
     let p3 = key_assignment(ws, notes, w.at, a, whole.state.next, c, out, p2);
     let d = counter::count_record(ws, notes, w.at + 1, a, w.state);
@@ -392,8 +383,8 @@ fn key_assignment(
     out: &mut [u32],
     pos: usize,
 ) -> usize
-    requires { StackReady c × (pos < 4294967296) × (next ≤ 67108864) × (takes_key ws.now at a ≡ true → 1 ≤ next) × Planned ws.now notes.now × (at < length ws.now) × (is_element_kind (label_at ws.now at).kind ≡ true) × (at < 67108864) }
-    ensures { Wrote out.old pos (cond (takes_key ws.now at a) (word_below c 18 (next - 1) ∷ []) []) out.new result }
+    requires { (pos < 4294967296) × (next ≤ 67108864) × (takes_key ws.now at a ≡ true → 1 ≤ next) × Planned ws.now notes.now × (at < length ws.now) × (is_element_kind (label_at ws.now at).kind ≡ true) × (at < 67108864) }
+    ensures { Wrote out.old pos (cond (takes_key ws.now at a) (word_below c (number Assignment) (next - 1) ∷ []) []) out.new result }
 {
     if !a.live || !notes[at].marked || inspect::plain_key(ws, notes, at) {
         return pos;
@@ -401,7 +392,7 @@ fn key_assignment(
     put(c, Kind::Assignment, next - 1, out, pos)
 }
 
-// A 36 whose parameters lose their decorators.
+// The parameters of a method, which lose their decorators.
 #[cycle(transform)]
 fn parameters(
     ws: &[u32],
@@ -411,7 +402,7 @@ fn parameters(
     c: ClassStack,
     out: &mut [u32],
 ) -> Walk
-    requires { Asks ws.now notes.now w.at 1 w.state.next c w.pos (length (parameters_words (word_below c) ws.now a w.at w.state)) × (w.at < length ws.now) × ((label_at ws.now w.at).kind ≡ 36) }
+    requires { Asks ws.now notes.now w.at 1 w.state.next c w.pos (length (parameters_words (word_below c) ws.now a w.at w.state)) × (w.at < length ws.now) × ((label_at ws.now w.at).kind ≡ number Parameters) }
     ensures { Moved (parameters_words (word_below c) ws.now a w.at w.state) (end_of ws.now w.at 1) (after_at ws.now w.at 1 a w.state) out.old w.pos out.new result }
 {
     let k = inspect::children_at(ws, w.at);
@@ -504,7 +495,7 @@ fn arguments(
     out: &mut [u32],
     pos: usize,
 ) -> usize
-    requires { StackReady c × (pos + 4 < 4294967296) × (at < 4294967296) × IsSomeAnd (option_or a.id s.default) (λ c. c < 67108864) × (s.next ≤ 67108864) × (has_plain_key (kids_at ws.now at) ≡ false → 1 ≤ s.next) × Ends ws.now notes.now 0 }
+    requires { (pos + 4 < 4294967296) × (at < 4294967296) × IsSomeAnd (option_or a.id s.default) (λ c. c < 67108864) × (s.next ≤ 67108864) × (has_plain_key (kids_at ws.now at) ≡ false → 1 ≤ s.next) × Ends ws.now notes.now 0 }
     ensures { Wrote out.old pos (argument_words (word_below c) ws.now a at s) out.new result }
 {
     let p1 = get_class_member_prefix(
@@ -520,7 +511,7 @@ fn arguments(
 
 // Rule 3: "Descriptor is 14 for a property, 13 for a method or accessor".
 fn descriptor(w: u32) -> Kind
-    ensures { number result ≡ cond (eqb (kind_of w) 31) 14 13 }
+    ensures { number result ≡ cond (eqb (kind_of w) (number Property)) (number VoidZero) (number Null) }
 {
     if words::is_kind(w, Kind::Property) {
         Kind::VoidZero
@@ -537,7 +528,7 @@ fn get_class_member_prefix(
     out: &mut [u32],
     pos: usize,
 ) -> usize
-    requires { StackReady c × (pos + 2 < 4294967296) × (symbol < 67108864) }
+    requires { (pos + 2 < 4294967296) × (symbol < 67108864) }
     ensures { Wrote out.old pos (prefix_words (word_below c) (eqb (bit0 flags) 1) symbol) out.new result }
 {
     if flags % 2 == 1 {
@@ -547,8 +538,8 @@ fn get_class_member_prefix(
 }
 
 fn create_prototype_member(symbol: u32, c: ClassStack, out: &mut [u32], pos: usize) -> usize
-    requires { StackReady c × (pos + 2 < 4294967296) × (symbol < 67108864) }
-    ensures { Wrote out.old pos (word_below c 24 0 ∷ word_below c 9 symbol ∷ []) out.new result }
+    requires { (pos + 2 < 4294967296) × (symbol < 67108864) }
+    ensures { Wrote out.old pos (word_below c (number PrototypeOf) 0 ∷ word_below c (number Identifier) symbol ∷ []) out.new result }
 {
     let p = put(c, Kind::PrototypeOf, 0, out, pos);
     put(c, Kind::Identifier, symbol, out, p)
@@ -564,7 +555,7 @@ fn get_name_of_property_key(
     out: &mut [u32],
     pos: usize,
 ) -> usize
-    requires { StackReady c × (pos < 4294967296) × (at < 4294967296) × (next ≤ 67108864) × (has_plain_key (kids_at ws.now at) ≡ false → 1 ≤ next) × Ends ws.now notes.now 0 }
+    requires { (pos < 4294967296) × (at < 4294967296) × (next ≤ 67108864) × (has_plain_key (kids_at ws.now at) ≡ false → 1 ≤ next) × Ends ws.now notes.now 0 }
     ensures { Wrote out.old pos (name_word (word_below c) (label_at ws.now (end_of ws.now (at + 1) 1)) (has_plain_key (kids_at ws.now at)) (next - 1) ∷ []) out.new result }
 {
     let q = records::behind(ws, notes, at + 1, 1);
@@ -576,7 +567,7 @@ fn get_name_of_property_key(
         return put(c, Kind::String, 0, out, pos);
     }
     if inspect::plain_key(ws, notes, at) {
-        return copy_word(c, w, out, pos);
+        return put_word(c, w, out, pos);
     }
     put(c, Kind::Identifier, next - 1, out, pos)
 }
@@ -601,7 +592,7 @@ fn entries(ws: &[u32], notes: &[Note], a: Around, w: Walk, c: ClassStack, out: &
     transform_decorators_of_parameters(ws, notes, a, p, c, out)
 }
 
-// The decorators of the parameters of the 36 where the walk stands, each under a 23 with its parameter's index.
+// The decorators of the parameters where the walk stands, each under a parameter call with its parameter's index.
 #[cycle(transform)]
 fn transform_decorators_of_parameters(
     ws: &[u32],
@@ -611,7 +602,7 @@ fn transform_decorators_of_parameters(
     c: ClassStack,
     out: &mut [u32],
 ) -> Walk
-    requires { Asks ws.now notes.now w.at 1 w.state.next c w.pos (size (of_parameters 0 (kids_here ws.now w.at a w.state))) × (w.count ≤ w.pos) × (w.at < length ws.now) × ((label_at ws.now w.at).kind ≡ 36) }
+    requires { Asks ws.now notes.now w.at 1 w.state.next c w.pos (size (of_parameters 0 (kids_here ws.now w.at a w.state))) × (w.count ≤ w.pos) × (w.at < length ws.now) × ((label_at ws.now w.at).kind ≡ number Parameters) }
     ensures { Wrote out.old w.pos (words_of c (of_parameters 0 (kids_here ws.now w.at a w.state))) out.new result.pos × (result.count ≡ w.count + count_f (of_parameters 0 (kids_here ws.now w.at a w.state))) }
 {
     let k = inspect::children_at(ws, w.at);
@@ -623,7 +614,7 @@ fn transform_decorators_of_parameters(
     v
 }
 
-// The decorators of the parameter where the walk stands, each under 23:j; the state is then the one behind the parameter.
+// The decorators of the parameter where the walk stands, each under a parameter call with the index j; the state is then the one behind the parameter.
 #[cycle(transform)]
 fn indexed(
     ws: &[u32],
@@ -634,7 +625,7 @@ fn indexed(
     c: ClassStack,
     out: &mut [u32],
 ) -> Walk
-    requires { Asks ws.now notes.now w.at 1 w.state.next c w.pos (size (indexed j (here_at ws.now (w.at + 2) (arity_at ws.now (w.at + 1)) a w.state))) × (w.count ≤ w.pos) × (w.at < length ws.now) × ((label_at ws.now w.at).kind ≡ 37) × (j < 67108864) }
+    requires { Asks ws.now notes.now w.at 1 w.state.next c w.pos (size (indexed j (here_at ws.now (w.at + 2) (arity_at ws.now (w.at + 1)) a w.state))) × (w.count ≤ w.pos) × (w.at < length ws.now) × ((label_at ws.now w.at).kind ≡ number Parameter) × (j < 67108864) }
     ensures { Moved (words_of c (indexed j (here_at ws.now (w.at + 2) (arity_at ws.now (w.at + 1)) a w.state))) (end_of ws.now w.at 1) (after_at ws.now w.at 1 a w.state) out.old w.pos out.new result × (result.count ≡ w.count + count_f (indexed j (here_at ws.now (w.at + 2) (arity_at ws.now (w.at + 1)) a w.state))) }
 {
     let whole = counter::count_record(ws, notes, w.at, a, w.state);
@@ -672,7 +663,7 @@ pub struct ClassPlan {
 
 // The class of the statement at `at`; s is the state behind the class's children.
 fn plan(ws: &[u32], notes: &[Note], at: usize, s: State) -> ClassPlan
-    requires { (length ws.now ≤ 4096) × (at < length ws.now) × Planned ws.now notes.now × (s.next + 1 < 67108864) × Small s.default × (at + 1 < length ws.now) × ((label_at ws.now (at + 1)).kind ≡ 26) × Fits (module' ∷ []) (records_at ws.now 0) }
+    requires { (length ws.now ≤ 4096) × (at < length ws.now) × Planned ws.now notes.now × (s.next + 1 < 67108864) × Small s.default × (at + 1 < length ws.now) × ((label_at ws.now (at + 1)).kind ≡ number Class) × Fits (module' ∷ []) (records_at ws.now 0) }
     ensures { PlanFrom ws.now notes.now at s result }
 {
     let id = inspect::class_id(ws, notes, at + 1);
@@ -684,7 +675,7 @@ fn plan(ws: &[u32], notes: &[Note], at: usize, s: State) -> ClassPlan
         inner: id.or(s.default),
         alias: None,
         private,
-        fixed: inspect::has_static(ws, notes, b + 1, inspect::children_at(ws, b)),
+        fixed: inspect::children(ws, notes, b).has_static(),
         calls: call_count_at(ws, notes, b, private),
     };
     if !notes[at + 1].marked {
@@ -715,13 +706,13 @@ fn private_at(ws: &[u32], notes: &[Note], at: usize) -> bool
 
 // The number of decorated members in the body at b, or 0 past the end, where rule 9's block asks for it. The body's mark says whether there is one.
 fn call_count_at(ws: &[u32], notes: &[Note], b: usize, private: bool) -> u32
-    requires { (length ws.now ≤ 4096) × Planned ws.now notes.now × (b < length ws.now → (label_at ws.now b).kind ≡ 29) }
+    requires { (length ws.now ≤ 4096) × Planned ws.now notes.now × (b < length ws.now → (label_at ws.now b).kind ≡ number Body) }
     ensures { private ≡ true → result ≡ count_called (kids_at ws.now b) }
 {
     if !private || ws.len() <= b || !notes[b].marked {
         return 0;
     }
-    inspect::call_count(ws, notes, b + 1, inspect::children_at(ws, b)) as u32
+    inspect::children(ws, notes, b).call_count() as u32
 }
 
 // The alias of the class of the statement at `at`, whose inner symbol is n.
@@ -738,7 +729,7 @@ fn alias_of(notes: &[Note], at: usize, n: u32) -> Option<u32>
 // A class statement whose class is live, and rewritten.
 #[cycle(transform)]
 fn statement(ws: &[u32], notes: &[Note], a: Around, w: Walk, c: ClassStack, out: &mut [u32]) -> Walk
-    requires { Asks ws.now notes.now w.at 1 w.state.next c w.pos (size (here_at ws.now w.at 1 a w.state)) × (w.count ≤ w.pos) × (w.at < length ws.now) × ((label_at ws.now w.at).kind ≡ 4) × (is_live (take_f 1 (records_at ws.now (w.at + 1))) ≡ true) }
+    requires { Asks ws.now notes.now w.at 1 w.state.next c w.pos (size (here_at ws.now w.at 1 a w.state)) × (w.count ≤ w.pos) × (w.at < length ws.now) × ((label_at ws.now w.at).kind ≡ number ClassStatement) × (is_live (take_f 1 (records_at ws.now (w.at + 1))) ≡ true) }
     ensures { Emitted ws.now w.at 1 a w.state c out.old w.pos w.count out.new result }
 {
     let whole = counter::count_record(ws, notes, w.at, a, w.state);
@@ -758,7 +749,7 @@ fn statement(ws: &[u32], notes: &[Note], a: Around, w: Walk, c: ClassStack, out:
 
 // The plan of the class of the statement at `at`; n is the counter in front of it.
 fn plan_at(ws: &[u32], notes: &[Note], at: usize, n: u32) -> ClassPlan
-    requires { Ready ws.now notes.now at n × (at < length ws.now) × ((label_at ws.now at).kind ≡ 4) × (is_live (take_f 1 (records_at ws.now (at + 1))) ≡ true) × Annotated ws.now notes.now at }
+    requires { Ready ws.now notes.now at n × (at < length ws.now) × ((label_at ws.now at).kind ≡ number ClassStatement) × (is_live (take_f 1 (records_at ws.now (at + 1))) ≡ true) × Annotated ws.now notes.now at }
     ensures { Plans ws.now at n result }
 {
     let id = inspect::class_id(ws, notes, at + 1);
@@ -790,7 +781,7 @@ fn plan_at(ws: &[u32], notes: &[Note], at: usize, n: u32) -> ClassPlan
 
 // The next fresh symbol behind the children of the same class, where it has the id `id`: the statement's note counts its symbols, rule 6's included.
 fn next_behind(ws: &[u32], notes: &[Note], at: usize, id: Option<u32>, n: u32) -> u32
-    requires { Ready ws.now notes.now at n × (at < length ws.now) × ((label_at ws.now at).kind ≡ 4) × (is_live (take_f 1 (records_at ws.now (at + 1))) ≡ true) × Annotated ws.now notes.now at × (id ≡ id_of (kids_at ws.now (at + 1))) × IsSome id }
+    requires { Ready ws.now notes.now at n × (at < length ws.now) × ((label_at ws.now at).kind ≡ number ClassStatement) × (is_live (take_f 1 (records_at ws.now (at + 1))) ≡ true) × Annotated ws.now notes.now at × (id ≡ id_of (kids_at ws.now (at + 1))) × IsSome id }
     ensures { result ≡ (at_end ws.now at n).next }
 {
     n + notes[at].count as u32 - counter::class_count(ws, notes, at, id, None)
@@ -798,7 +789,7 @@ fn next_behind(ws: &[u32], notes: &[Note], at: usize, id: Option<u32>, n: u32) -
 
 // The words in front of the class (rules 8 and 9); p is the payload of the statement.
 fn class_head(p: u32, g: ClassPlan, c: ClassStack, out: &mut [u32], pos: usize) -> usize
-    requires { StackReady c × (pos + 3 < 4294967296) × (p < 67108864) × Small g.alias × Small g.outer }
+    requires { (pos + 3 < 4294967296) × (p < 67108864) × Small g.alias × Small g.outer }
     ensures { Wrote out.old pos (head_of g c p) out.new result }
 {
     match g.outer {
@@ -809,7 +800,7 @@ fn class_head(p: u32, g: ClassPlan, c: ClassStack, out: &mut [u32], pos: usize) 
 
 // Rule 8: "5:C, (18:alias,) 20".
 fn let_head(outer: u32, g: ClassPlan, c: ClassStack, out: &mut [u32], pos: usize) -> usize
-    requires { StackReady c × (pos + 3 < 4294967296) × Small g.alias × (outer < 67108864) }
+    requires { (pos + 3 < 4294967296) × Small g.alias × (outer < 67108864) }
     ensures { Wrote out.old pos (let_words g c outer) out.new result }
 {
     let p1 = put(c, Kind::Let, outer, out, pos);
@@ -832,7 +823,7 @@ fn transform_class(
     out: &mut [u32],
     pos: usize,
 ) -> usize
-    requires { Asks ws.now notes.now at 1 n c pos (length (class_words ws.now at n (word_below c))) × (at < length ws.now) × ((label_at ws.now at).kind ≡ 4) × (is_live (take_f 1 (records_at ws.now (at + 1))) ≡ true) × Plans ws.now at n g }
+    requires { Asks ws.now notes.now at 1 n c pos (length (class_words ws.now at n (word_below c))) × (at < length ws.now) × ((label_at ws.now at).kind ≡ number ClassStatement) × (is_live (take_f 1 (records_at ws.now (at + 1))) ≡ true) × Plans ws.now at n g }
     ensures { Wrote out.old pos (class_words ws.now at n (word_below c)) out.new result }
 {
     let a = Around {
@@ -862,9 +853,9 @@ fn transform_class(
     class_body(ws, notes, g, h, c, out)
 }
 
-// A class with the flags p: its word, its emptied 28, its id.
+// A class with the flags p: its word, its emptied decorators, its id.
 fn class_words(g: ClassPlan, p: u32, c: ClassStack, out: &mut [u32], pos: usize) -> usize
-    requires { StackReady c × (pos + 3 < 4294967296) × (p + 1 < 67108864) × Small g.inner }
+    requires { (pos + 3 < 4294967296) × (p + 1 < 67108864) × Small g.inner }
     ensures { Wrote out.old pos (name_words g c p) out.new result }
 {
     let p1 = put(c, Kind::Class, class_flags(g, p), out, pos);
@@ -890,7 +881,7 @@ fn class_body(
     c: ClassStack,
     out: &mut [u32],
 ) -> usize
-    requires { Asks ws.now notes.now w.at 1 w.state.next c w.pos (length (body_by g c ws.now w.at w.state)) × (w.at < length ws.now) × ((label_at ws.now w.at).kind ≡ 29) × (c.depth + 1 + nest_at ws.now w.at 1 ≤ capacity) × Small g.alias × Small g.outer × (g.private ≡ true → g.calls ≡ count_f (calls_at ws.now (w.at + 1) (arity_at ws.now w.at) (scope_of g) w.state)) × Below w.state.next g.id × Below w.state.next w.state.default }
+    requires { Asks ws.now notes.now w.at 1 w.state.next c w.pos (length (body_by g c ws.now w.at w.state)) × (w.at < length ws.now) × ((label_at ws.now w.at).kind ≡ number Body) × (c.depth + 1 + nest_at ws.now w.at 1 ≤ capacity) × Small g.alias × Small g.outer × (g.private ≡ true → g.calls ≡ count_f (calls_at ws.now (w.at + 1) (arity_at ws.now w.at) (scope_of g) w.state)) × Below w.state.next g.id × Below w.state.next w.state.default }
     ensures { Wrote out.old w.pos (body_by g c ws.now w.at w.state) out.new result }
 {
     let k = inspect::children_at(ws, w.at);
@@ -933,18 +924,18 @@ fn has_block(g: ClassPlan) -> bool
 
 // Rule 6: in the body the class's symbol is its alias.
 fn body_stack(g: ClassPlan, c: ClassStack) -> ClassStack
-    requires { StackReady c × (c.depth < capacity) × Small g.alias × Small g.outer }
-    ensures { StackReady result × (result.depth ≤ c.depth + 1) × ((k p : ℕ) → body_word g c k p ≡ word_below result k p) }
+    requires { (c.depth < capacity) × Small g.alias × Small g.outer }
+    ensures { (result.depth ≤ c.depth + 1) × ((k p : ℕ) → body_word g c k p ≡ word_below result k p) }
 {
     match (g.outer, g.alias) {
-        (Some(outer), Some(alias)) => class_stack::push(c, outer, alias),
+        (Some(outer), Some(alias)) => c.push(outer, alias),
         _ => c,
     }
 }
 
 // Rule 8: "33:1, 2, 18:alias, 15 in front".
 fn alias_block(g: ClassPlan, c: ClassStack, out: &mut [u32], pos: usize) -> usize
-    requires { StackReady c × (pos + 4 < 4294967296) × Small g.alias }
+    requires { (pos + 4 < 4294967296) × Small g.alias }
     ensures { Wrote out.old pos (front_words g c) out.new result }
 {
     match g.alias {
@@ -968,7 +959,7 @@ fn elements(
     c: ClassStack,
     out: &mut [u32],
 ) -> usize
-    requires { Asks ws.now notes.now w.at 1 w.state.next c w.pos (length (elements_by g c ws.now w.at w.state)) × (w.at < length ws.now) × ((label_at ws.now w.at).kind ≡ 29) }
+    requires { Asks ws.now notes.now w.at 1 w.state.next c w.pos (length (elements_by g c ws.now w.at w.state)) × (w.at < length ws.now) × ((label_at ws.now w.at).kind ≡ number Body) }
     ensures { Wrote out.old w.pos (elements_by g c ws.now w.at w.state) out.new result }
 {
     let a = Around {
@@ -984,7 +975,7 @@ fn elements(
     if g.outer.is_none() {
         return records(ws, notes, k, a, v, c, out).pos;
     }
-    let j = inspect::first_constructor(ws, notes, w.at + 1, k);
+    let j = inspect::children(ws, notes, w.at).first_constructor();
     if k <= j {
         return records(ws, notes, k, a, v, c, out).pos;
     }
@@ -1011,7 +1002,7 @@ fn queue(
     c: ClassStack,
     out: &mut [u32],
 ) -> Queued
-    requires { Asks ws.now notes.now at 1 n c 0 (length (queue_words ws.now at n (word_below c))) × (at < length ws.now) × ((label_at ws.now at).kind ≡ 4) × (is_live (take_f 1 (records_at ws.now (at + 1))) ≡ true) × Plans ws.now at n g }
+    requires { Asks ws.now notes.now at 1 n c 0 (length (queue_words ws.now at n (word_below c))) × (at < length ws.now) × ((label_at ws.now at).kind ≡ number ClassStatement) × (is_live (take_f 1 (records_at ws.now (at + 1))) ≡ true) × Plans ws.now at n g }
     ensures { Wrote out.old 0 (queue_words ws.now at n (word_below c)) out.new result.pos × (result.count ≡ queue_count ws.now at n) }
 {
     if g.private {
@@ -1053,9 +1044,9 @@ fn queue(
     }
 }
 
-// Rule 10: "6:C for export or 7:C for default", by the payload of the statement.
+// Rule 10: "6:C for export or 7:C for default", by the payload x of the statement: a number and no enum, since the word's form has it as a number.
 fn create_export(x: u32, symbol: u32, c: ClassStack, out: &mut [u32], pos: usize) -> usize
-    requires { StackReady c × (pos < 4294967296) × (symbol < 67108864) }
+    requires { (pos < 4294967296) × (symbol < 67108864) }
     ensures { Wrote out.old pos (export_words (word_below c) x symbol) out.new result }
 {
     match x {
@@ -1079,7 +1070,7 @@ fn create_assignment(
     out: &mut [u32],
     pos: usize,
 ) -> usize
-    requires { Asks ws.now notes.now at 1 n c pos (length (assignment_by g c outer ws.now (ds ws.now at n) b.at b.state)) × (at < length ws.now) × ((label_at ws.now at).kind ≡ 4) × (is_live (take_f 1 (records_at ws.now (at + 1))) ≡ true) × Plans ws.now at n g × (g.outer ≡ Some outer) × (b.at ≡ body_at ws.now at) × (b.state ≡ at_body ws.now at n) }
+    requires { Asks ws.now notes.now at 1 n c pos (length (assignment_by g c outer ws.now (ds ws.now at n) b.at b.state)) × (at < length ws.now) × ((label_at ws.now at).kind ≡ number ClassStatement) × (is_live (take_f 1 (records_at ws.now (at + 1))) ≡ true) × Plans ws.now at n g × (g.outer ≡ Some outer) × (b.at ≡ body_at ws.now at) × (b.state ≡ at_body ws.now at n) }
     ensures { Wrote out.old pos (assignment_by g c outer ws.now (ds ws.now at n) b.at b.state) out.new result }
 {
     let p1 = assignment_head(outer, g.alias, c, out, pos);
@@ -1116,7 +1107,7 @@ fn assignment_head(
     out: &mut [u32],
     pos: usize,
 ) -> usize
-    requires { StackReady c × (pos + 4 < 4294967296) × (outer < 67108864) × Small alias }
+    requires { (pos + 4 < 4294967296) × (outer < 67108864) × Small alias }
     ensures { Wrote out.old pos (assign_words c outer alias) out.new result }
 {
     let p1 = put(c, Kind::ExpressionStatement, 0, out, pos);
@@ -1135,7 +1126,7 @@ fn first_entries(
     c: ClassStack,
     out: &mut [u32],
 ) -> Walk
-    requires { Asks ws.now notes.now w.at 1 w.state.next c w.pos (size (first_by g c ws.now w.at w.state)) × (w.count ≤ w.pos) × (w.at < length ws.now) × ((label_at ws.now w.at).kind ≡ 29) }
+    requires { Asks ws.now notes.now w.at 1 w.state.next c w.pos (size (first_by g c ws.now w.at w.state)) × (w.count ≤ w.pos) × (w.at < length ws.now) × ((label_at ws.now w.at).kind ≡ number Body) }
     ensures { Wrote out.old w.pos (words_of c (first_by g c ws.now w.at w.state)) out.new result.pos × (result.count ≡ w.count + count_f (first_by g c ws.now w.at w.state)) }
 {
     let a = Around {
@@ -1143,7 +1134,7 @@ fn first_entries(
         id: g.id,
     };
     let k = inspect::children_at(ws, w.at);
-    let j = inspect::first_constructor(ws, notes, w.at + 1, k);
+    let j = inspect::children(ws, notes, w.at).first_constructor();
     if k <= j {
         return w;
     }

@@ -4,17 +4,19 @@ use Rattle.std.proofs.Math.Path.{refl, sym, ap, subst}
 use Rattle.std.proofs.Common.{◌∙◌, drop_of_length-le, drop-cons, get_or-set_other, eqb→eq}
 use Rattle.std.proofs.Math.Bool.{true}
 use mathlib.Core.List.{List, [], ◌∷◌, ◌++◌, append_assoc}
-use Prim.Native.Nat.{ℕ, zero, suc, ◌+◌, ◌-◌, ◌*◌, ◌<◌, ◌≤◌}
+use Prim.Native.Nat.{ℕ, zero, suc, ◌+◌, ◌-◌, ◌*◌, ◌/◌, ◌%◌, ◌<◌, ◌≤◌}
 use Rattle.std.proofs.Math.Numerals.{add-one}
 use native.Mathlib.Omega.{arith}
 use Rattle.std.proofs.Math.ListN.{replicate, drop, get_or}
 use Rattle.std.proofs.lemmas.List.{replicate-append-replicate}
 use Rattle.std.proofs.Math.Seq.{get_or-set_same}
 use Rattle.std.proofs.Math.Dec.{T}
-use borrow.Author.Tests.{eqb-true, eq-eqb, ne_eqb, ltb-true}
+use borrow.Author.Tests.{eqb-true, eqb-false, eq-eqb, ne_eqb, ltb-true}
 use Rattle.words.specs.Table.{lookup}
-use Rattle.words.specs.Shape.{bit_of}
-use Rattle.words.specs.Word.{kind_of, payload_of, children}
+use Rattle.words.specs.Shape.{bit_of, bit_none}
+use Rattle.words.specs.Word.{kind_of, payload_of, children, bit1}
+use Rattle.words.specs.Kinds.{number}
+use Rattle.words.specs.declared.kinds.Kind.{Kind}
 use Rattle.grammar.specs.Limits.{max_depth}
 use Rattle.grammar.specs.declared.Slot.TheVariants.{Module}
 use Rattle.grammar.specs.declared.Slot.{Slot}
@@ -53,6 +55,9 @@ unfolding stacked
 length_stacked rs zero = refl
 length_stacked rs (suc n) = ap suc (length_stacked rs n)
 
+pub stack_length : (rs : List Run) (n : ℕ) {xs : List Run} → stacked n rs ≡ xs → n ≡ length xs
+stack_length rs n e = sym (length_stacked rs n) ∙ ap length e
+
 pub roomy_push : (r : Run) (rs : List Run) → (r.count ≡ 0 → ⊥) → length rs + 4 * r.left ≤ 256 → Roomy rs → Roomy (r ∷ rs)
 unfolding Roomy
 roomy_push r rs s l h = (s, l, h)
@@ -61,6 +66,9 @@ pub roomy_pop : (r : Run) (rs : List Run) → Roomy (r ∷ rs) → (r.count ≡ 
 unfolding Roomy
 roomy_pop r rs h = h
 
+pub roomy_top : (rs : List Run) (n : ℕ) → (n ≡ 0 → ⊥) → Roomy (stacked n rs) → ((get_or rs (n - 1) none).count ≡ 0 → ⊥) × (length (stacked (n - 1) rs) + 4 * (get_or rs (n - 1) none).left ≤ 256) × Roomy (stacked (n - 1) rs)
+roomy_top rs n h t = roomy_pop _ _ (rw (stacked_top rs n h) at t)
+
 pub roomy_none : Roomy []
 unfolding Roomy
 roomy_none = tt
@@ -68,6 +76,14 @@ roomy_none = tt
 pub waiting_none : (r : Run) (rs : List Run) → r.count ≡ 0 → waiting (r ∷ rs) ≡ waiting rs
 unfolding waiting places_in
 waiting_none r rs e = rw e
+
+-- ---- what a test of a set of kinds says
+
+pub in_set : (s k : ℕ) {b : Bool} → b ≡ eqb (bit_of s k) 1 → b ≡ true → bit_of s k ≡ 0 → ⊥
+in_set s k e t z = let o : bit_of s k ≡ 1 = eqb-true _ 1 (sym e ∙ t) in omega arith
+
+pub not_in_set : (s k : ℕ) {b : Bool} → b ≡ eqb (bit_of s k) 1 → b ≡ false → bit_of s k ≡ 0
+not_in_set s k e f = bit_none s k (eqb-false _ 1 (sym e ∙ f))
 
 -- ---- tests of every row
 
@@ -178,10 +194,29 @@ module _ {k j p p' : ℕ} (x left : ℕ) (ep : p ≡ p') (ek : j ≡ k) where
       three false e true f u = below_kind 33 (ek ∙ eqb-true k 33 f)
       three false e false f u = below_kind 39 (ek ∙ eqb→eq k 39 u)
 
+-- all runs are those of the children of a record of the kind k, where a match names it k₁
+pub over_kind : {k p p' : ℕ} {k₀ k₁ : Kind} {old new : List Run} (x left : ℕ) → p ≡ p' → k ≡ number k₀ → k₀ ≡ k₁ → Over old new (places (max_depth + 1 - left) ((row_of (number k₁)).below x p)) →
+    waiting new ≡ places (max_depth + 1 - left) ((row_of k).below x p') ++ waiting old
+over_kind {k} {p} {p'} {k₀} {k₁} {old} {new} x left ep ek e h = h.waits ∙ ap (◌++ waiting old) (below_kind x left ep refl (number k₁) (ek ∙ ap number e))
+
+-- a flag, by its test
+pub flag_of : (p : ℕ) → cond (eqb (bit1 p) 1) 1 0 ≡ bit1 p
+unfolding bit1
+flag_of p = go (p / 2 % 2) (omega arith)
+  where
+    go : (b : ℕ) → b < 2 → cond (eqb b 1) 1 0 ≡ b
+    go zero h = refl
+    go (suc zero) h = refl
+    go (suc (suc b)) h = absurd (omega arith)
+
 -- all children are expressions
 pub below_plain : (q : Slot') (k p d : ℕ) → allowed q k p ≡ true → (bit_of plain k ≡ 0 → ⊥) → replicate (children k p) (place expression d) ≡ places d ((row_of k).below q.context p)
 below_plain q k p d a b =
     sym (plain_places d ((row_of k).below q.context p) (plain_row_lem k q.context p b) ∙ ap (λ (j : ℕ). replicate j (place expression d)) (total_below q k p a))
+
+-- the category of a slot that takes a word of the kind k, where a match names it k₁
+pub named_category : {k : ℕ} {k₀ k₁ : Kind} (q : Slot') (p : ℕ) → allowed q k p ≡ true → k ≡ number k₀ → k₀ ≡ k₁ → q.category ≡ (row_of (number k₁)).category
+named_category {k} q p a ek e = sym (allowed_row q k p a).0 ∙ ap (λ (n : ℕ). (row_of n).category) (ek ∙ ap number e)
 
 -- a class statement's payload
 pub class_payload : (q : Slot') (k p : ℕ) → allowed q k p ≡ true → k ≡ 4 → p < 3
@@ -205,6 +240,28 @@ first : (r : Run) (rs : List Run) → (r.count ≡ 0 → ⊥) → waiting (r ∷
 unfolding waiting places_in
 first r rs some = let e : r.count ≡ suc (r.count - 1) = omega arith in ap (λ (m : ℕ). replicate m (next_place r) ++ waiting rs) e
 
+-- what the scan of the places ahead answers, where they are those that were ahead before
+pub judged_ahead : (s : ℕ) (ws : List ℕ) {n m : ℕ} {qs rs : List Place} → judge s qs ws ≡ n → qs ≡ rs → judge s rs ws ≡ m → n ≡ m
+judged_ahead s ws a e b = sym a ∙ ap (λ (ps : List Place). judge s ps ws) e ∙ b
+
+-- the word of the next place has no fault
+module _ (s : ℕ) (r : Run) (w : ℕ) (e : 0 ≡ fault_at s (next_place r) w) where
+  faultless : Faultless s (next_place r) (kind_of w) (payload_of w)
+  unfolding fault_at
+  faultless = (fault_0 s (next_place r) (kind_of w) (payload_of w)).0 (sym e)
+
+  pub scan_allowed : allowed (slot_of r.slot) (kind_of w) (payload_of w) ≡ true
+  unfolding place
+  scan_allowed = faultless.grammar
+
+  pub scan_depth : 1 ≤ r.left
+  unfolding place
+  scan_depth = omega (arith, faultless.depth)
+
+  below_places : r.left ≤ max_depth → below_at (next_place r) w ≡ places (max_depth + 1 - (r.left - 1)) ((row_of (kind_of w)).below (slot_of r.slot).context (payload_of w))
+  unfolding below_at below place
+  below_places le = let d : max_depth + 1 - (r.left - 1) ≡ max_depth + 1 - r.left + 1 = omega (arith, scan_depth) in rw d
+
 module _ (s i : ℕ) (ws : List ℕ) (h : i < length ws) where
   -- no place waits for a word
   pub scan_left : judge s [] (drop i ws) ≡ 2
@@ -226,34 +283,18 @@ module _ (s i : ℕ) (ws : List ℕ) (h : i < length ws) where
           let f : fault_at s (next_place r) (get_or ws i 0) ≡ 0 = sym e in
           rw (first r rs some, dc, f)
 
-      faultless : Faultless s (next_place r) (kind_of (get_or ws i 0)) (payload_of (get_or ws i 0))
-      unfolding fault_at
-      faultless = (fault_0 s (next_place r) (kind_of (get_or ws i 0)) (payload_of (get_or ws i 0))).0 (sym e)
-
-      pub scan_allowed : allowed (slot_of r.slot) (kind_of (get_or ws i 0)) (payload_of (get_or ws i 0)) ≡ true
-      unfolding place
-      scan_allowed = faultless.grammar
-
-      pub scan_depth : 1 ≤ r.left
-      unfolding place
-      scan_depth = omega (arith, faultless.depth)
-
-      below_places : r.left ≤ max_depth → below_at (next_place r) (get_or ws i 0) ≡ places (max_depth + 1 - (r.left - 1)) ((row_of (kind_of (get_or ws i 0))).below (slot_of r.slot).context (payload_of (get_or ws i 0)))
-      unfolding below_at below place
-      below_places le = let d : max_depth + 1 - (r.left - 1) ≡ max_depth + 1 - r.left + 1 = omega (arith, scan_depth) in rw d
-
       -- with its children
       pub scan_below : r.left ≤ max_depth → (more all : List Run) → waiting more ≡ waiting (without_next r ∷ rs) →
           waiting all ≡ places (max_depth + 1 - (r.left - 1)) ((row_of (kind_of (get_or ws i 0))).below (slot_of r.slot).context (payload_of (get_or ws i 0))) ++ waiting more →
           judge s (waiting (r ∷ rs)) (drop i ws) ≡ judge s (waiting all) (drop (i + 1) ws)
       scan_below le more all em ea =
-          scan_word ∙ ap (λ (l : List Place). judge s l (drop (i + 1) ws)) (ap (◌++ waiting (without_next r ∷ rs)) (below_places le) ∙ sym (ea ∙ ap (places (max_depth + 1 - (r.left - 1)) ((row_of (kind_of (get_or ws i 0))).below (slot_of r.slot).context (payload_of (get_or ws i 0))) ++◌) em))
+          scan_word ∙ ap (λ (l : List Place). judge s l (drop (i + 1) ws)) (ap (◌++ waiting (without_next r ∷ rs)) (below_places s r (get_or ws i 0) e le) ∙ sym (ea ∙ ap (places (max_depth + 1 - (r.left - 1)) ((row_of (kind_of (get_or ws i 0))).below (slot_of r.slot).context (payload_of (get_or ws i 0))) ++◌) em))
 
       -- it has no children
       pub scan_leaf : r.left ≤ max_depth → (bit_of leaves (kind_of (get_or ws i 0)) ≡ 0 → ⊥) → judge s (waiting (r ∷ rs)) (drop i ws) ≡ judge s (waiting (without_next r ∷ rs)) (drop (i + 1) ws)
       scan_leaf le b =
           scan_word
-          ∙ ap (λ (l : List Place). judge s (l ++ waiting (without_next r ∷ rs)) (drop (i + 1) ws)) (below_places le ∙ leaf_places (max_depth + 1 - (r.left - 1)) _ (leaf_row_lem (kind_of (get_or ws i 0)) (slot_of r.slot).context (payload_of (get_or ws i 0)) b))
+          ∙ ap (λ (l : List Place). judge s (l ++ waiting (without_next r ∷ rs)) (drop (i + 1) ws)) (below_places s r (get_or ws i 0) e le ∙ leaf_places (max_depth + 1 - (r.left - 1)) _ (leaf_row_lem (kind_of (get_or ws i 0)) (slot_of r.slot).context (payload_of (get_or ws i 0)) b))
 
 -- the words ended, with a place that waits, or with none
 pub scan_end : (s i : ℕ) (ws : List ℕ) (r : Run) (rs : List Run) → (r.count ≡ 0 → ⊥) → length ws ≤ i → judge s (waiting (r ∷ rs)) (drop i ws) ≡ 2

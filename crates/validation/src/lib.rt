@@ -1,7 +1,8 @@
 // Validation: refusals 1 to 6 of a module's words. Reads the words, writes nothing.
+// Flags of a payload are read where they are asked, as the definitions do (`bit0`, `bit1`, `bit2` in words/specs/Word): a payload's bits are the word's form.
 #![tactic(auto)]
 
-ghost use Rattle.std.specs.Prelude.{◌≡◌, ◌≢◌, ◌+◌, ◌-◌, ◌*◌, ◌<◌, ◌≤◌, ◌↔◌, true, [], ◌∷◌, ◌++◌, length, IsTrue, IsNone, IfSome, MatchOption};
+ghost use Rattle.std.specs.Prelude.{◌≡◌, ◌≢◌, ◌+◌, ◌-◌, ◌*◌, ◌<◌, ◌≤◌, ◌↔◌, true, cond, [], ◌∷◌, ◌++◌, length, IsTrue, IsNone, IfSome, MatchOption};
 ghost use Rattle.words.specs.Word.{kind_of, payload_of};
 ghost use Rattle.grammar.specs.Limits.{max_depth};
 ghost use Rattle.words.specs.Shape.{bit_of};
@@ -33,7 +34,9 @@ impl Run {
     }
 }
 
-// The runs that wait behind the one that is read, the next one on top. A level takes four of them or fewer.
+// The runs that wait behind the one that is read, the next one on top. A level takes four of them or fewer. An array and a length, not the kit's
+// `ArrayVec<Run, N>`: with that it proves too, but each run that is taken is written over with a blank, and `validate` took 5 per cent more instructions
+// on the cases of validation_cases and 8 on accepted modules of 4,000 words.
 #[derive(Drop)]
 struct Stack<const N: usize> {
     runs: [Run; N],
@@ -137,7 +140,7 @@ const PLAIN_KINDS: u64 = 1 << Kind::ExpressionStatement as u32
     | 1 << Kind::Other as u32
     | 1 << Kind::Decorators as u32;
 
-// The class under a class statement with the payload.
+// The class under a class statement with the payload. A payload is a number by the word's form; here it becomes a case of `Slot`.
 fn class_under(payload: u32) -> Slot
     requires { payload < 3 }
     ensures { slot_of result ≡ class_under payload }
@@ -150,13 +153,13 @@ fn class_under(payload: u32) -> Slot
 }
 
 // The decorators of a method that is a constructor or not.
-fn method_decorators(constructor: u32) -> Slot
-    requires { constructor < 2 }
-    ensures { slot_of result ≡ method_decorators constructor }
+fn method_decorators(constructor: bool) -> Slot
+    ensures { slot_of result ≡ method_decorators (cond constructor 1 0) }
 {
-    match constructor {
-        0 => Slot::Decorators,
-        _ => Slot::ConstructorDecorators,
+    if constructor {
+        Slot::ConstructorDecorators
+    } else {
+        Slot::Decorators
     }
 }
 
@@ -191,7 +194,7 @@ fn children<const N: usize>(stack: &mut Stack<N>, slot: Slot, left: u32, w: u32)
     ensures places { waiting (result ∷ stack.new) ≡ places (max_depth + 1 - left) ((row_of (kind_of w)).below (slot_of slot).context (payload_of w)) ++ waiting stack.old }
     ensures levels { length stack.new + 4 * result.left ≤ 256 }
 {
-    if words::kind_bit(PLAIN_KINDS, w) != 0 {
+    if words::is_in(w, PLAIN_KINDS) {
         return Run::new(Slot::Expression, left, words::child_count(w));
     }
     let p = words::payload_of(w);
@@ -217,7 +220,7 @@ fn children<const N: usize>(stack: &mut Stack<N>, slot: Slot, left: u32, w: u32)
             stack.push(Run::new(Slot::Code, left, p / 4 % 2));
             stack.push(Run::new(Slot::Parameters, left, 1));
             stack.push(Run::new(Slot::Key, left, 1));
-            Run::new(method_decorators(p / 2 % 2), left, 1)
+            Run::new(method_decorators(p / 2 % 2 == 1), left, 1)
         }
         Some(Kind::Property) => {
             stack.push(Run::new(Slot::Expression, left, p / 2 % 2));
@@ -253,7 +256,7 @@ fn scan<const N: usize>(ws: &[u32], symbols: u32) -> Option<Result<(), Refusal>>
             return Some(Err(refusal));
         }
         let rest = Run::new(next.slot, next.left, next.count - 1);
-        if words::kind_bit(LEAVES, *w) != 0 {
+        if words::is_in(*w, LEAVES) {
             run = rest;
             continue;
         }

@@ -1,8 +1,10 @@
 -- The kinds by document 01's numbers. Assumes nothing.
-use Rattle.std.specs.Prelude.{◌≡◌, refl, Bool, true, false, cond, ℕ, List, [], ◌∷◌, Option, Some, None, eqb}
-use Rattle.std.proofs.Common.{ap, ◌∙◌, eqb-true}
+use Rattle.std.specs.Prelude.{◌≡◌, refl, Bool, true, false, cond, ℕ, List, [], ◌∷◌, Option, Some, None, Result, Ok, Err, MatchResult, eqb}
+use Rattle.std.specs.Result.{result_ok}
+use Rattle.std.proofs.Common.{ap, sym, ◌∙◌, eqb-true}
 use Rattle.std.proofs.lemmas.Option.{none-some, same_Some}
 use Rattle.words.specs.declared.kinds.Kind.{Kind}
+use Rattle.words.specs.declared.kinds.UnknownKind.{UnknownKind}
 use Rattle.words.specs.declared.kinds.Kind.TheVariants.{Module, ExpressionStatement, Block, ClassStatement, Let, Export, DefaultExport, Atom, Identifier, String, Number, Template, Null, VoidZero, This, Array, Call, Assignment, PrivateIn, ClassExpression, Function, DecorateCall, ParameterCall, PrototypeOf, Other, Class, Id, Decorators, Body, Method, Property, AbstractAccessor, StaticBlock, Name, PrivateName, Parameters, Parameter, Code, Symbols}
 
 -- ---- "kind:payload in decimal": the kind that each number of a record stands for
@@ -59,6 +61,10 @@ first n (k ∷ ks) = cond (eqb n (number k)) (Some k) (first n ks)
 -- the kind of a number, if it is one's
 unfoldable pub named : ℕ → Option Kind
 named n = first n kinds
+
+-- what the conversion of a number answers
+abbrev pub Decodes : ℕ → Result Kind UnknownKind → Type 0
+Decodes n r = MatchResult r (λ k. n ≡ number k) (λ e. (e.0 ≡ n) × (named n ≡ None))
 
 -- a kind has its number, and a number one kind at most
 pub named_number : (k : Kind) → named (number k) ≡ Some k
@@ -119,3 +125,11 @@ number_named n k e = by_first n kinds k e
 -- where the answer is another kind, or none, the number isn't the kind's
 pub number_other : {n : ℕ} {o : Option Kind} (k : Kind) → o ≡ named n → (o ≡ Some k → ⊥) → n ≡ number k → ⊥
 number_other k a h e = h (a ∙ ap named e ∙ named_number k)
+
+pub number_is : {n : ℕ} {o : Option Kind} (k : Kind) → o ≡ named n → o ≡ Some k → n ≡ number k
+number_is {n} k a e = number_named n k (sym a ∙ e)
+
+-- the conversion's answer without its error
+pub decoded : (n : ℕ) (r : Result Kind UnknownKind) → Decodes n r → result_ok r ≡ named n
+decoded n (Ok k) e = sym (ap named e ∙ named_number k)
+decoded n (Err u) e = sym e.1

@@ -175,6 +175,10 @@ bit_lt s k = omega arith
 pub bit_one : (s k : ℕ) → (bit_of s k ≡ 0 → ⊥) → bit_of s k ≡ 1
 bit_one s k n = omega (arith, bit_lt s k)
 
+-- a bit that isn't 1
+pub bit_none : (s k : ℕ) → (bit_of s k ≡ 1 → ⊥) → bit_of s k ≡ 0
+bit_none s k n = omega (arith, bit_lt s k)
+
 by_one : (a p : ℕ) → children_by p (16 * a + 1) ≡ a + p
 unfolding children_by counted lookup
 by_one a p =

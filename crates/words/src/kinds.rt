@@ -1,7 +1,7 @@
 // The kinds of records, by name, and the kind of a word.
 ghost use Rattle.std.specs.Prelude.{◌≡◌, eqb, IfSome};
 ghost use Rattle.words.specs.Word.{kind_of};
-ghost use Rattle.words.specs.Kinds.{number, named};
+ghost use Rattle.words.specs.Kinds.{number, named, Decodes};
 
 // The top 6 bits of a word, as far as they are a kind.
 #[derive(Clone, Copy, Debug, PartialEq, Eq)]
@@ -65,6 +65,62 @@ impl From<Kind> for u32 {
     }
 }
 
+// A number that no kind has.
+#[derive(Clone, Copy, Debug, PartialEq, Eq)]
+pub struct UnknownKind(pub u32);
+
+impl TryFrom<u32> for Kind {
+    type Error = UnknownKind;
+
+    ghost try_from_gives = { Decodes };
+
+    #[tactic(auto, unfolding(crate::specs::Kinds::named, crate::specs::Kinds::first, crate::specs::Kinds::kinds))]
+    fn try_from(n: u32) -> Result<Kind, UnknownKind> {
+        match n {
+            1 => Ok(Kind::Module),
+            2 => Ok(Kind::ExpressionStatement),
+            3 => Ok(Kind::Block),
+            4 => Ok(Kind::ClassStatement),
+            5 => Ok(Kind::Let),
+            6 => Ok(Kind::Export),
+            7 => Ok(Kind::DefaultExport),
+            8 => Ok(Kind::Atom),
+            9 => Ok(Kind::Identifier),
+            10 => Ok(Kind::String),
+            11 => Ok(Kind::Number),
+            12 => Ok(Kind::Template),
+            13 => Ok(Kind::Null),
+            14 => Ok(Kind::VoidZero),
+            15 => Ok(Kind::This),
+            16 => Ok(Kind::Array),
+            17 => Ok(Kind::Call),
+            18 => Ok(Kind::Assignment),
+            19 => Ok(Kind::PrivateIn),
+            20 => Ok(Kind::ClassExpression),
+            21 => Ok(Kind::Function),
+            22 => Ok(Kind::DecorateCall),
+            23 => Ok(Kind::ParameterCall),
+            24 => Ok(Kind::PrototypeOf),
+            25 => Ok(Kind::Other),
+            26 => Ok(Kind::Class),
+            27 => Ok(Kind::Id),
+            28 => Ok(Kind::Decorators),
+            29 => Ok(Kind::Body),
+            30 => Ok(Kind::Method),
+            31 => Ok(Kind::Property),
+            32 => Ok(Kind::AbstractAccessor),
+            33 => Ok(Kind::StaticBlock),
+            34 => Ok(Kind::Name),
+            35 => Ok(Kind::PrivateName),
+            36 => Ok(Kind::Parameters),
+            37 => Ok(Kind::Parameter),
+            39 => Ok(Kind::Code),
+            40 => Ok(Kind::Symbols),
+            _ => Err(UnknownKind(n)),
+        }
+    }
+}
+
 impl Kind {
     // The kind of a word, if it has one.
     #[tactic(auto, using(crate::specs::Kinds::number_named))]
@@ -72,56 +128,7 @@ impl Kind {
         ensures named { result ≡ named (kind_of w) }
         ensures number { IfSome result (λ k. kind_of w ≡ number k) }
     {
-        Kind::named(crate::kind_of(w))
-    }
-
-    // The kind of a number, if it is one's.
-    #[tactic(auto, unfolding(crate::specs::Kinds::named, crate::specs::Kinds::first, crate::specs::Kinds::kinds))]
-    pub fn named(n: u32) -> Option<Kind>
-        ensures { result ≡ named n }
-    {
-        match n {
-            1 => Some(Kind::Module),
-            2 => Some(Kind::ExpressionStatement),
-            3 => Some(Kind::Block),
-            4 => Some(Kind::ClassStatement),
-            5 => Some(Kind::Let),
-            6 => Some(Kind::Export),
-            7 => Some(Kind::DefaultExport),
-            8 => Some(Kind::Atom),
-            9 => Some(Kind::Identifier),
-            10 => Some(Kind::String),
-            11 => Some(Kind::Number),
-            12 => Some(Kind::Template),
-            13 => Some(Kind::Null),
-            14 => Some(Kind::VoidZero),
-            15 => Some(Kind::This),
-            16 => Some(Kind::Array),
-            17 => Some(Kind::Call),
-            18 => Some(Kind::Assignment),
-            19 => Some(Kind::PrivateIn),
-            20 => Some(Kind::ClassExpression),
-            21 => Some(Kind::Function),
-            22 => Some(Kind::DecorateCall),
-            23 => Some(Kind::ParameterCall),
-            24 => Some(Kind::PrototypeOf),
-            25 => Some(Kind::Other),
-            26 => Some(Kind::Class),
-            27 => Some(Kind::Id),
-            28 => Some(Kind::Decorators),
-            29 => Some(Kind::Body),
-            30 => Some(Kind::Method),
-            31 => Some(Kind::Property),
-            32 => Some(Kind::AbstractAccessor),
-            33 => Some(Kind::StaticBlock),
-            34 => Some(Kind::Name),
-            35 => Some(Kind::PrivateName),
-            36 => Some(Kind::Parameters),
-            37 => Some(Kind::Parameter),
-            39 => Some(Kind::Code),
-            40 => Some(Kind::Symbols),
-            _ => None,
-        }
+        Kind::try_from(crate::kind_of(w)).ok()
     }
 }
 
@@ -129,5 +136,6 @@ impl Kind {
 pub fn is_kind(w: u32, kind: Kind) -> bool
     ensures { result ≡ eqb (kind_of w) (number kind) }
 {
+    // The numbers, not the names: no look-up (speed).
     crate::kind_of(w) == u32::from(kind)
 }

@@ -4,8 +4,7 @@ use Rattle.alias_search.specs.Walk.{left_hit, left_next, left_end, left_split, b
 use Rattle.alias_search.specs.Read.{mentions_gone}
 use Rattle.alias_search.specs.Mentions.{whole, gone, until, each, elements as elements-mode, behind, of_field, of_method, mentions as mentions-all}
 use Rattle.inspect.specs.Reads.{step_low}
-use Rattle.words.specs.Kinds.{number, number_other}
-use Rattle.words.specs.declared.kinds.Kind.TheVariants.{ClassStatement, Method, Property, AbstractAccessor}
+use Rattle.words.specs.Kinds.{number}
 use Rattle.records.specs.Place.{label_at, kids_at}
 use Rattle.std.proofs.Common.{rules}
 use lib.ListN.{length}
@@ -125,11 +124,7 @@ mentions_record-returns-in-Some-Property t c =
 pub mentions_record-returns-in_default : goal.mentions_record-returns-in_default
 mentions_record-returns-in_default t c =
     let k = kids_at c.args.ws.now c.args.at in
-    c.mentions-in_default.ensures ∙ all_reads c.args.c c.children.ensures.0 ∙ sym (record_kids c.args.c _ k (sym c.mentions_word.ensures ∙ c.if-mentions_word.false) (inner_other c.args.c _ k
-    (number_other ClassStatement c.kind_at.ensures.named (λ s. grind (arith, s)))
-    (number_other Method c.kind_at.ensures.named (λ s. grind (arith, s)))
-    (number_other Property c.kind_at.ensures.named (λ s. grind (arith, s)))
-    (number_other AbstractAccessor c.kind_at.ensures.named (λ s. grind (arith, s)))))
+    c.mentions-in_default.ensures ∙ all_reads c.args.c c.children.ensures.0 ∙ sym (record_kids c.args.c _ k (sym c.mentions_word.ensures ∙ c.if-mentions_word.false) (inner_other c.args.c _ k c.kind_at.ensures.named (λ s. grind (arith, s)) (λ s. grind (arith, s)) (λ s. grind (arith, s)) (λ s. grind (arith, s))))
 
 pub element-returns-then-mentions_word : goal.element-returns-then-mentions_word
 element-returns-then-mentions_word t c = rw each_part (search rules)

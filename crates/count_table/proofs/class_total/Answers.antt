@@ -25,19 +25,6 @@ offset_bounds-notes-b c =
     let whole = p.0.ready.whole in
     omega (arith, p.0.ready.few, body_inside g.ws.now whole (g.at + 1) (class_inside g.ws.now whole g.at p.0.inside p.1) (class_kind g.ws.now whole g.at p.0.inside p.1) c.class_body-b.ensures)
 
-pub bounds-notes-b : goal.bounds-notes-b
-bounds-notes-b c =
-    let g = c.args in
-    let p = c.requires in
-    let whole = p.0.ready.whole in
-    omega (arith, p.0.ready.planned.ends.long, body_inside g.ws.now whole (g.at + 1) (class_inside g.ws.now whole g.at p.0.inside p.1) (class_kind g.ws.now whole g.at p.0.inside p.1) c.class_body-b.ensures)
-
-pub bounds-notes-at : goal.bounds-notes-at
-bounds-notes-at c =
-    let g = c.args in
-    let p = c.requires in
-    omega (arith, p.0.ready.planned.ends.long, class_inside g.ws.now p.0.ready.whole g.at p.0.inside p.1)
-
 pub returns-then-not-notes-b : goal.returns-then-not-notes-b
 returns-then-not-notes-b c =
     let g = c.args in
@@ -52,6 +39,3 @@ returns-then-not-notes-b c =
 
 pub total_records-requires : goal.total_records-requires
 total_records-requires c = behind_walks c.requires.0
-
-pub returns : goal.returns
-returns c = c.total_records.ensures

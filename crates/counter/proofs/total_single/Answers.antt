@@ -1,11 +1,7 @@
 -- `total_single`: the note, but for an element of a live class that is marked.
-use mathlib.Core.Path.{refl, sym}
 use native.Mathlib.Omega.{arith}
 use borrow.Author.Tests.{not-true, not-false}
-use Rattle.words.specs.Kinds.{number_other}
-use Rattle.words.specs.declared.kinds.Kind.TheVariants.{Method, Property, AbstractAccessor}
-use Rattle.counter.specs.Contract.{is_walked}
-use Rattle.counter.specs.Totals.{kinds_apart, element_kind, total_same, note_at, total_dead, total_unmarked, total_quiet}
+use Rattle.counter.specs.Totals.{element_kind, total_same, note_at, total_dead, total_unmarked, total_other_kind}
 use Rattle.counter.proofs.total_single.Goals.{then-not-note-via-then-not-note, then-not-note-via-else-not-note+then-not-a}
 use Rattle.counter.proofs.total_single.Goals as goal
 
@@ -29,8 +25,4 @@ returns-in_default c =
     let g = c.args in
     let p = c.requires in
     let e = c.from_note-in_default.ensures in
-    total_same _ (total_quiet p.0 p.1 g.a g.has _ (note_at _ _ _ p.0.noted p.1) (λ e. kinds_apart is_walked 26 _ (unfold is_walked in refl) p.2 (sym e)) (λ e. kinds_apart is_walked 29 _ (unfold is_walked in refl) p.2 (sym e))
-    (number_other Method c.kind_at.ensures.named (λ s. grind (arith, s)))
-    (number_other Property c.kind_at.ensures.named (λ s. grind (arith, s)))
-    (number_other AbstractAccessor c.kind_at.ensures.named (λ s. grind (arith, s))))
-    e.0 e.1 e.2
+    total_same _ (total_other_kind p.0 p.1 g.a g.has _ (note_at _ _ _ p.0.noted p.1) c.kind_at.ensures.named p.2 (λ s. grind (arith, s)) (λ s. grind (arith, s)) (λ s. grind (arith, s))) e.0 e.1 e.2

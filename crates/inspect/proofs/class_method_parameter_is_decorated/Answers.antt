@@ -1,11 +1,9 @@
 -- `class_method_parameter_is_decorated`: the entries of the parameters are empty where no parameter has decorators.
-use borrow.Author.Tests.{tests}
-use mathlib.Core.Path.{sym, ◌∙◌}
-use Rattle.std.proofs.Common.{rules}
+use mathlib.Core.Path.{ap, sym, ◌∙◌}
 use Rattle.inspect.specs.Class.{has_decorators, parameters_any}
-use Rattle.inspect.proofs.Read.{any_read}
+use Rattle.inspect.specs.Reads.{reads_rest}
+use Rattle.inspect.specs.Row.{any_row}
 use Rattle.inspect.proofs.class_method_parameter_is_decorated.Goals as goal
 
 pub returns : goal.returns
-unfolding has_decorators
-returns c = any_read c.parameters_of.result c.parameters_of.ensures.0 has_decorators c.any.new.self _ _ c.any.ensures.ran (λ x b q k. search (rules, tests)) ∙ sym (parameters_any 0 _)
+returns c = c.any_decorated.ensures ∙ ap (any_row has_decorators) (reads_rest c.parameters_of.ensures.0) ∙ sym (parameters_any 0 _)

@@ -6,34 +6,45 @@ use native.Mathlib.Omega.{arith}
 use borrow.Author.Tests.{eqb-true, eqb-false}
 use mathlib.Core.Bool.{not}
 use mathlib.Core.Path.{ap, sym, ◌∙◌}
-use Rattle.mark_table.proofs.is_refused_7.Goals.{then-not-is_kind_at-via-then-not-is_kind_at, then-not-is_kind_at-via-else-not-is_kind_at+then-not-is_live}
+use Rattle.mark_table.proofs.is_refused_7.Goals.{then-is_kind_at, else-is_kind_at, then-is_live, else-is_live}
 use Rattle.mark_table.proofs.is_refused_7.Goals as goal
 
-pub returns-then-not-is_kind_at : goal.returns-then-not-is_kind_at
-returns-then-not-is_kind_at c =
-    elim c.then-not-is_kind_at.branch [
-      | then-not-is_kind_at-via-then-not-is_kind_at w ↦ sym (refused_other c.args.ws.now c.args.i (eqb-false _ 4 (sym c.is_kind_at.ensures ∙ w.if-not-is_kind_at.true)))
-      | then-not-is_kind_at-via-else-not-is_kind_at+then-not-is_live w ↦
-          sym (refused_dead c.args.ws.now c.args.i (eqb-true _ 4 (sym c.is_kind_at.ensures ∙ w.if-not-is_kind_at.false)) (sym w.is_live.ensures ∙ w.if-not-is_live.true))
-    ]
-
 pub bounds-notes-i : goal.bounds-notes-i
-bounds-notes-i c = omega (arith, class_inside c.args.ws.now c.requires.2 c.args.i c.requires.0 (eqb-true _ 4 (sym c.is_kind_at.ensures ∙ c.if-not-is_kind_at.false)), c.requires.1.long)
+bounds-notes-i c =
+    let p = c.requires in
+    elim c.if-is_kind_at.branch [
+      | then-is_kind_at w ↦ omega (arith, class_inside c.args.ws.now p.2 c.args.i p.0 (eqb-true _ 4 (sym c.is_kind_at.ensures ∙ w.if-is_kind_at.true)), p.1.long)
+      | else-is_kind_at w ↦ cc
+    ]
 
 pub returns-then-notes-i : goal.returns-then-notes-i
 unfolding ClassMark
 returns-then-notes-i c =
     let ws = c.args.ws.now in
     let p = c.requires in
-    let k = eqb-true _ 4 (sym c.is_kind_at.ensures ∙ c.if-not-is_kind_at.false) in
-    let m = p.3 (class_inside ws p.2 c.args.i p.0 k) (class_kind ws p.2 c.args.i p.0 k) in
-    ap not c.class_decorated_first.ensures ∙ sym (refused_decorated ws c.args.i k (sym c.is_live.ensures ∙ c.if-not-is_live.false) (sym m ∙ c.if-notes-i.true))
+    elim c.if-is_live.branch [
+      | then-is_live w ↦
+          elim c.if-is_kind_at.branch [
+            | then-is_kind_at v ↦
+                let k = eqb-true _ 4 (sym c.is_kind_at.ensures ∙ v.if-is_kind_at.true) in
+                let m = p.3 (class_inside ws p.2 c.args.i p.0 k) (class_kind ws p.2 c.args.i p.0 k) in
+                ap not c.class_decorated_first.ensures ∙ sym (refused_decorated ws c.args.i k (sym v.is_live.ensures ∙ sym v.value-is ∙ w.if-is_live.true) (sym m ∙ sym w.value-is ∙ c.if-notes-i.true))
+            | else-is_kind_at v ↦ cc
+          ]
+      | else-is_live w ↦ cc
+    ]
 
 pub returns-else-notes-i : goal.returns-else-notes-i
 unfolding ClassMark
 returns-else-notes-i c =
     let ws = c.args.ws.now in
     let p = c.requires in
-    let k = eqb-true _ 4 (sym c.is_kind_at.ensures ∙ c.if-not-is_kind_at.false) in
-    let m = p.3 (class_inside ws p.2 c.args.i p.0 k) (class_kind ws p.2 c.args.i p.0 k) in
-    c.if-notes-i.false ∙ sym (refused_plain ws c.args.i k (sym c.is_live.ensures ∙ c.if-not-is_live.false) (sym m ∙ c.if-notes-i.false))
+    c.if-notes-i.false ∙ sym (elim c.if-is_kind_at.branch [
+      | then-is_kind_at v ↦
+          let k = eqb-true _ 4 (sym c.is_kind_at.ensures ∙ v.if-is_kind_at.true) in
+          elim c.if-is_live.branch [
+            | then-is_live w ↦ refused_plain ws c.args.i k (sym v.is_live.ensures ∙ sym v.value-is ∙ w.if-is_live.true) (sym (p.3 (class_inside ws p.2 c.args.i p.0 k) (class_kind ws p.2 c.args.i p.0 k)) ∙ sym w.value-is ∙ c.if-notes-i.false)
+            | else-is_live w ↦ refused_dead ws c.args.i k (sym v.is_live.ensures ∙ sym v.value-is ∙ w.if-is_live.false)
+          ]
+      | else-is_kind_at v ↦ refused_other ws c.args.i (eqb-false _ 4 (sym c.is_kind_at.ensures ∙ v.if-is_kind_at.false))
+    ])

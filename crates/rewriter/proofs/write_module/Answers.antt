@@ -13,11 +13,11 @@ program-requires c =
     let g = c.args in
     let ws = g.ws.now in
     let e = sym (c.payload_at-s.ensures.0 ∙ symbols_word ws) in
-    (subst (λ (s : ℕ). Asks ws g.notes.now 0 1 s c.empty.result 0 (size (here_at ws 0 1 unlive (begun s)))) e (start_asks ws c.requires.0 c.empty.result c.empty.ensures.0 g.notes.now c.requires.1 c.requires.2 c.empty.ensures.1), start_inside ws c.requires.0)
+    (subst (λ (s : ℕ). Asks ws g.notes.now 0 1 s c.new.result 0 (size (here_at ws 0 1 unlive (begun s)))) e (start_asks ws c.requires.0 c.new.result c.new.ensures g.notes.now c.requires.1 c.requires.2), start_inside ws c.requires.0)
 
 pub returns : goal.returns
 returns c =
     let g = c.args in
     let ws = g.ws.now in
     let e = c.payload_at-s.ensures.0 ∙ symbols_word ws in
-    start_writes_at ws c.requires.0 c.empty.result c.empty.ensures.0 c.payload_at-s.result e c.program.ensures
+    start_writes_at ws c.requires.0 c.new.result c.new.ensures c.payload_at-s.result e c.program.ensures

@@ -17,12 +17,11 @@ use Rattle.transform.proofs.arguments.Goals as goal
 pub get_name_of_property_key-p2-requires : goal.get_name_of_property_key-p2-requires
 get_name_of_property_key-p2-requires c =
     let p = c.requires in
-    (p.0, omega (arith, c.get_class_member_prefix-p1.ensures.end, prefix_length (word_below c.args.c) 0 c.unwrap.result (eqb (bit0 c.payload_at.result) 1), p.1), p.2, p.4, p.5, p.6)
+    (omega (arith, c.get_class_member_prefix-p1.ensures.end, prefix_length (word_below c.args.c) 0 c.unwrap.result (eqb (bit0 c.payload_at.result) 1), p.0), p.1, p.3, p.4, p.5)
 
 pub put-requires : goal.put-requires
 put-requires c = (
-  c.requires.0,
-  omega (arith, c.get_name_of_property_key-p2.ensures.end, c.get_class_member_prefix-p1.ensures.end, prefix_length (word_below c.args.c) 0 c.unwrap.result (eqb (bit0 c.payload_at.result) 1), c.requires.1),
+  omega (arith, c.get_name_of_property_key-p2.ensures.end, c.get_class_member_prefix-p1.ensures.end, prefix_length (word_below c.args.c) 0 c.unwrap.result (eqb (bit0 c.payload_at.result) 1), c.requires.0),
   omega arith,
 )
 

@@ -8,7 +8,7 @@ use Rattle.transform.proofs.assignment_head.Goals as goal
 
 pub put-requires : goal.put-requires
 put-requires c =
-    (c.requires.0, omega (arith, c.put_optional-p3.ensures.end, optional_length (word_below c.args.c) 18 c.args.alias, c.put-p2.ensures.end, c.put-p1.ensures.end, c.requires.1), omega arith)
+    (omega (arith, c.put_optional-p3.ensures.end, optional_length (word_below c.args.c) 18 c.args.alias, c.put-p2.ensures.end, c.put-p1.ensures.end, c.requires.0), omega arith)
 
 pub returns : goal.returns
 unfolding assign_words

@@ -1,9 +1,9 @@
 -- `call_count_at`: by the mark of the body, or by counting.
 use mathlib.Core.Path.{sym, ap, ◌∙◌}
 use mathlib.Core.Bool.{false≢true}
-use Prim.Native.Nat.{◌+◌}
+use lib.ListN.{length}
 use native.Mathlib.Omega.{arith}
-use Rattle.inspect.specs.Child.{kids_row}
+use Rattle.inspect.specs.Reads.{reads_rest}
 use Rattle.inspect.specs.Class.{count_called}
 use Rattle.transform.specs.Plans.{called_few, called_past, called_unmarked}
 use Rattle.transform.proofs.call_count_at.Goals.{then-not-private-via-then-not-private, then-not-private-via-else-not-private+then-ws-b, then-not-private-via-else-not-private+else-ws-b+then-not-notes-b}
@@ -19,7 +19,7 @@ returns-then-not-private c t =
     ]
 
 pub overflow_cast-result : goal.overflow_cast-result
-overflow_cast-result c = omega (arith, c.call_count.ensures, called_few c.args.ws.now (c.args.b + 1) c.children_at.result, c.requires.0)
+overflow_cast-result c = let r = c.children.result in omega (arith, c.call_count.ensures, called_few r.words.now r.at r.left, ap length c.children.ensures.0.words, c.requires.0)
 
 pub returns : goal.returns
-returns c = λ t. c.call_count.ensures ∙ ap count_called (kids_row c.args.ws.now c.args.b c.children_at.result c.children_at.ensures.0)
+returns c = λ t. c.call_count.ensures ∙ ap count_called (reads_rest c.children.ensures.0)

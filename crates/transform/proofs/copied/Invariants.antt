@@ -1,5 +1,6 @@
+use Prim.Native.Nat.{◌+◌}
 use Rattle.transform.specs.Copies.{Copying}
 use Rattle.transform.proofs.copied.Given as goal
 
-abbrev pub invariant-loop-i : goal.invariant-loop-i
-invariant-loop-i l = Copying l.ws l.at l.e l.c l.initial.out l.pos l.i l.out l.p
+abbrev pub invariant-loop-w : goal.invariant-loop-w
+invariant-loop-w l = Copying l.ws l.at l.e l.c l.initial.out l.pos (l.at + l.w-index) l.out l.p

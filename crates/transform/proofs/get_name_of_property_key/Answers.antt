@@ -15,7 +15,7 @@ pub behind-q-requires : goal.behind-q-requires
 behind-q-requires c = search (rules, ends_at)
 
 pub put-requires : goal.put-requires
-put-requires c = (c.requires.0, c.requires.1, omega (arith, c.payload_of.ensures, payload_lt c.word_at-w.result))
+put-requires c = (c.requires.0, omega (arith, c.payload_of.ensures, payload_lt c.word_at-w.result))
 
 pub returns-then-is_kind : goal.returns-then-is_kind
 returns-then-is_kind c =
@@ -36,10 +36,10 @@ returns-then-plain_key c =
     let a = c.args in
     let h = c.word_at-w.ensures in
     let q = c.behind-q.result in
-    wrote_as (name_copied (word_below a.c) a.ws.now a.at q c.behind-q.ensures _ (word_kind a.ws.now q h) (a.next - 1) _ (word_payload a.ws.now q h) (eqb-false _ 34 (sym c.is_kind.ensures ∙ c.if-is_kind.false)) (eqb-false _ 35 (sym c.is_kind-2.ensures ∙ c.if-is_kind-2.false)) (sym c.plain_key.ensures ∙ c.if-plain_key.true)) c.copy_word.ensures
+    wrote_as (name_copied (word_below a.c) a.ws.now a.at q c.behind-q.ensures _ (word_kind a.ws.now q h) (a.next - 1) _ (word_payload a.ws.now q h) (eqb-false _ 34 (sym c.is_kind.ensures ∙ c.if-is_kind.false)) (eqb-false _ 35 (sym c.is_kind-2.ensures ∙ c.if-is_kind-2.false)) (sym c.plain_key.ensures ∙ c.if-plain_key.true)) c.put_word.ensures
 
 pub overflow_sub-next : goal.overflow_sub-next
-overflow_sub-next c = c.requires.4 (sym c.plain_key.ensures ∙ c.if-plain_key.false)
+overflow_sub-next c = c.requires.3 (sym c.plain_key.ensures ∙ c.if-plain_key.false)
 
 pub returns : goal.returns
 returns c =

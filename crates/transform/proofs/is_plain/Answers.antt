@@ -1,5 +1,6 @@
 -- `is_plain`: the marks of the class and of its body say it.
-use mathlib.Core.Path.{sym, ◌∙◌}
+use mathlib.Core.Bool.{not}
+use mathlib.Core.Path.{ap, sym, ◌∙◌}
 use Prim.Native.Nat.{◌+◌}
 use native.Mathlib.Omega.{arith}
 use Rattle.walk_laws.specs.Kinds.{class_inside, class_kind}
@@ -13,33 +14,33 @@ bounds-notes-at c =
     let p = c.requires in
     omega (arith, p.0.ends.long, class_inside g.ws.now p.1 g.at p.2 p.3)
 
-pub returns-then-notes-at : goal.returns-then-notes-at
-returns-then-notes-at c =
+pub returns-else-not-notes-at : goal.returns-else-not-notes-at
+returns-else-not-notes-at c =
     let g = c.args in
     let p = c.requires in
-    sym (plain_not _ (sym (class_mark g.ws.now p.1 g.at p.2 p.3 p.0) ∙ c.if-notes-at.true))
+    ap not c.if-not-notes-at.false ∙ sym (plain_not _ (sym (class_mark g.ws.now p.1 g.at p.2 p.3 p.0) ∙ c.if-not-notes-at.false))
 
-pub class_body-b-requires : goal.class_body-b-requires
-class_body-b-requires c =
+pub class_body-requires : goal.class_body-requires
+class_body-requires c =
     let g = c.args in
     let p = c.requires in
     body_asks g.ws.now p.1 (g.at + 1) (class_inside g.ws.now p.1 g.at p.2 p.3) (class_kind g.ws.now p.1 g.at p.2 p.3) p.0.ends
 
-pub offset_bounds-notes-b : goal.offset_bounds-notes-b
-offset_bounds-notes-b c =
+pub offset_bounds-notes-class_body : goal.offset_bounds-notes-class_body
+offset_bounds-notes-class_body c =
     let g = c.args in
     let p = c.requires in
-    omega (arith, body_inside g.ws.now p.1 (g.at + 1) (class_inside g.ws.now p.1 g.at p.2 p.3) (class_kind g.ws.now p.1 g.at p.2 p.3) c.class_body-b.ensures)
+    omega (arith, body_inside g.ws.now p.1 (g.at + 1) (class_inside g.ws.now p.1 g.at p.2 p.3) (class_kind g.ws.now p.1 g.at p.2 p.3) c.class_body.ensures)
 
-pub bounds-notes-b : goal.bounds-notes-b
-bounds-notes-b c =
+pub bounds-notes-class_body : goal.bounds-notes-class_body
+bounds-notes-class_body c =
     let g = c.args in
     let p = c.requires in
-    omega (arith, p.0.ends.long, body_inside g.ws.now p.1 (g.at + 1) (class_inside g.ws.now p.1 g.at p.2 p.3) (class_kind g.ws.now p.1 g.at p.2 p.3) c.class_body-b.ensures)
+    omega (arith, p.0.ends.long, body_inside g.ws.now p.1 (g.at + 1) (class_inside g.ws.now p.1 g.at p.2 p.3) (class_kind g.ws.now p.1 g.at p.2 p.3) c.class_body.ensures)
 
-pub returns : goal.returns
-returns c =
+pub returns-then-not-notes-at : goal.returns-then-not-notes-at
+returns-then-not-notes-at c =
     let g = c.args in
     let p = c.requires in
-    let mark = body_mark g.ws.now p.1 (g.at + 1) (class_inside g.ws.now p.1 g.at p.2 p.3) (class_kind g.ws.now p.1 g.at p.2 p.3) c.class_body-b.ensures p.0 in
-    sym (plain_is _ _ (sym (class_mark g.ws.now p.1 g.at p.2 p.3 p.0) ∙ c.if-notes-at.false) mark)
+    let mark = body_mark g.ws.now p.1 (g.at + 1) (class_inside g.ws.now p.1 g.at p.2 p.3) (class_kind g.ws.now p.1 g.at p.2 p.3) c.class_body.ensures p.0 in
+    sym (plain_is _ _ (sym (class_mark g.ws.now p.1 g.at p.2 p.3 p.0) ∙ c.if-not-notes-at.true) mark)

@@ -11,7 +11,7 @@ pub returns-then-not-a : goal.returns-then-not-a
 returns-then-not-a c =
     let a = c.args in
     let p = c.requires in
-    let mark = sym (element_mark a.at p.4 p.5 p.6) in
+    let mark = sym (element_mark a.at p.3 p.4 p.5) in
     elim c.then-not-a.branch [
       | then-not-a-via-then-not-a w ↦ rw (takes_dead a.ws.now a.at a.a (not-true _ w.if-not-a.true)) (wrote_none _ _)
       | then-not-a-via-else-not-a+then-not-notes-at w ↦ rw (takes_plain a.ws.now a.at a.a (not-false _ w.if-not-a.false) (mark ∙ w.if-not-notes-at.true)) (wrote_none _ _)
@@ -23,10 +23,10 @@ pub overflow_sub-next : goal.overflow_sub-next
 overflow_sub-next c =
     let a = c.args in
     let p = c.requires in
-    p.3 (takes_fresh a.ws.now a.at a.a (not-false _ c.if-not-a.false) (sym (element_mark a.at p.4 p.5 p.6) ∙ c.if-not-notes-at.false) (sym c.plain_key.ensures ∙ c.if-plain_key.false))
+    p.2 (takes_fresh a.ws.now a.at a.a (not-false _ c.if-not-a.false) (sym (element_mark a.at p.3 p.4 p.5) ∙ c.if-not-notes-at.false) (sym c.plain_key.ensures ∙ c.if-plain_key.false))
 
 pub returns : goal.returns
 returns c =
     let a = c.args in
     let p = c.requires in
-    rw (takes_fresh a.ws.now a.at a.a (not-false _ c.if-not-a.false) (sym (element_mark a.at p.4 p.5 p.6) ∙ c.if-not-notes-at.false) (sym c.plain_key.ensures ∙ c.if-plain_key.false)) c.put.ensures
+    rw (takes_fresh a.ws.now a.at a.a (not-false _ c.if-not-a.false) (sym (element_mark a.at p.3 p.4 p.5) ∙ c.if-not-notes-at.false) (sym c.plain_key.ensures ∙ c.if-plain_key.false)) c.put.ensures

@@ -12,7 +12,7 @@ returns-then-g c = rw c.if-g.true (wrote_then c.put-p1.ensures c.put.ensures)
 
 pub put-requires-2 : goal.put-requires-2
 put-requires-2 c =
-    (c.requires.0, omega (arith, c.put_optional-p2.ensures.end, optional_length (word_below c.args.c) 18 c.args.g.alias, c.put-p1.ensures.end, c.requires.1), omega arith)
+    (omega (arith, c.put_optional-p2.ensures.end, optional_length (word_below c.args.c) 18 c.args.g.alias, c.put-p1.ensures.end, c.requires.0), omega arith)
 
 pub returns : goal.returns
 unfolding let_words

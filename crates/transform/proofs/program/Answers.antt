@@ -25,7 +25,7 @@ put-requires c =
     let g = c.args in
     let f = c.requires in
     let w = f.0.ready.whole in
-    (f.0.stack, omega arith, next_small g.ws.now 2 c.payload_at.result unlive (begun g.next) f.0.ready.few f.0.ready.room (omega arith) (module_inside g.ws.now 0 unlive (begun g.next) g.c f.1 w (first_kind g.ws.now w f.1)) c.records-r.result.state c.records-r.ensures.moved.state)
+    (omega arith, next_small g.ws.now 2 c.payload_at.result unlive (begun g.next) f.0.ready.few f.0.ready.room (omega arith) (module_inside g.ws.now 0 unlive (begun g.next) g.c f.1 w (first_kind g.ws.now w f.1)) c.records-r.result.state c.records-r.ensures.moved.state)
 
 pub put-requires-2 : goal.put-requires-2
 put-requires-2 c =
@@ -33,7 +33,7 @@ put-requires-2 c =
     let f = c.requires in
     let w = f.0.ready.whole in
     let z = ap (λ (j : ℕ). size (here_at g.ws.now 2 j unlive (begun g.next))) c.payload_at.ensures.0 in
-    (f.0.stack, omega arith, omega (arith, f.0.fit, c.records-r.ensures.number, z, count_size (here_at g.ws.now 2 c.payload_at.result unlive (begun g.next)), module_size g.ws.now 0 unlive (begun g.next) g.c f.1 w (first_kind g.ws.now w f.1)))
+    (omega arith, omega (arith, f.0.fit, c.records-r.ensures.number, z, count_size (here_at g.ws.now 2 c.payload_at.result unlive (begun g.next)), module_size g.ws.now 0 unlive (begun g.next) g.c f.1 w (first_kind g.ws.now w f.1)))
 
 pub returns : goal.returns
 returns c =

@@ -1,12 +1,9 @@
--- `put`: the word under the classes around.
+-- `put`: the word of the kind and the payload.
 use mathlib.Core.Path.{ap, ◌∙◌}
-use mathlib.Core.List.{[], ◌∷◌}
 use Prim.Native.Nat.{ℕ}
-use Rattle.transform.specs.Contract.{word_below}
-use Rattle.transform.specs.Leaves.{wrote_as}
-use Rattle.transform.specs.Under.{word_under}
+use Rattle.words.specs.Word.{word_of}
+use Rattle.transform.specs.Leaves.{wrote_made}
 use Rattle.transform.proofs.put.Goals as goal
 
 pub returns : goal.returns
-unfolding word_below word_under
-returns c = wrote_as (ap (λ (w : ℕ). w ∷ []) (c.word.ensures ∙ ap (λ (k : ℕ). word_below c.args.c k c.args.p) c.from.ensures)) c.put.ensures
+returns c = wrote_made c.args.c _ c.args.p (c.word_of.ensures ∙ ap (λ (k : ℕ). word_of k c.args.p) c.from.ensures) c.requires.1 c.put_word.ensures

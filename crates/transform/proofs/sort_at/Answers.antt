@@ -2,7 +2,7 @@
 use native.Mathlib.Omega.{arith}
 use Rattle.words.specs.Kinds.{number_other}
 use Rattle.words.specs.declared.kinds.Kind.TheVariants.{Block, StaticBlock, Code, ClassStatement, ClassExpression, Method, Property, AbstractAccessor}
-use Rattle.transform.specs.Kept.{list_kind, kept_plain, plain_rest, sort_unmarked}
+use Rattle.transform.specs.Kept.{list_kind, kept_plain, plain_rest, unmarked_kept}
 use Rattle.transform.specs.Sole.{no_module}
 use Rattle.transform.proofs.sort_at.Goals as goal
 
@@ -16,7 +16,7 @@ returns-in_default c =
     let g = c.args in
     let p = c.requires in
     let n = c.kind_at.ensures.number in
-    sort_unmarked g.ws.now g.notes.now g.at p.2 p.1 p.0 (grind (arith, n)) (grind (arith, n)) c.if-notes-at.false
+    unmarked_kept g.ws.now g.notes.now g.at p.2 p.1 p.0 c.if-notes-at.false (grind (arith, n)) (grind (arith, n))
 
 pub returns-in_default-2 : goal.returns-in_default-2
 returns-in_default-2 c =

@@ -1,7 +1,7 @@
 -- `next`: the run itself, none, or the top of the stack.
 use Rattle.std.proofs.Common.{sym, ap, ◌∙◌, arith}
 use Rattle.validation.specs.Waiting.{waiting, stacked}
-use Rattle.validation.specs.Walks.{stacked_top, roomy_pop, waiting_none}
+use Rattle.validation.specs.Walks.{stacked_top, roomy_top, waiting_none}
 use Rattle.validation.proofs.Stack.next.Goals as goal
 
 pub returns-then-self-eq0-clause-none : goal.returns-then-self-eq0-clause-none
@@ -11,13 +11,13 @@ returns-then-self-eq0-clause-none g c = λ z. waiting_none _ _ c.if-run-ne0.fals
 pub invariant_of-self : goal.invariant_of-self
 invariant_of-self g c =
     let q = c.self.inside in
-    let top = roomy_pop _ _ (rw (stacked_top q.runs q.len c.if-self-eq0.false) at c.self.invariant.2) in
+    let top = roomy_top q.runs q.len c.if-self-eq0.false c.self.invariant.2 in
     (omega arith, c.self.invariant.1, top.2)
 
 pub returns-clause-some : goal.returns-clause-some
 returns-clause-some g c =
     let q = c.self.inside in
-    rw c.new.ensures (roomy_pop _ _ (rw (stacked_top q.runs q.len c.if-self-eq0.false) at c.self.invariant.2)).0
+    rw c.new.ensures (roomy_top q.runs q.len c.if-self-eq0.false c.self.invariant.2).0
 
 pub returns-clause-places : goal.returns-clause-places
 returns-clause-places g c =
@@ -27,4 +27,4 @@ returns-clause-places g c =
 pub returns-clause-levels : goal.returns-clause-levels
 returns-clause-levels g c =
     let q = c.self.inside in
-    rw c.new.ensures (roomy_pop _ _ (rw (stacked_top q.runs q.len c.if-self-eq0.false) at c.self.invariant.2)).1
+    rw c.new.ensures (roomy_top q.runs q.len c.if-self-eq0.false c.self.invariant.2).1
