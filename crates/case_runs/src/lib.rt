@@ -15,24 +15,32 @@ use std::alloc::Global;
 type Answer = std::result::Result<Written, Refusal>;
 
 // A word that no module has.
-const MARK: u32 = 4294967295;
+const MARK: u32 = u32::MAX;
 
-// Whether the lent words begin with the expected ones and keep the mark behind them.
-fn has_words(expected: &[u32], out: &[u32]) -> bool {
-    match out.split_at_checked(expected.len()) {
-        Some((written, rest)) => written == expected && rest.iter().all(|w| *w == MARK),
+// Whether so many of the lent words are right by a test, and those behind them keep the mark.
+fn has_written<F>(out: &[u32], count: usize, is_right: F) -> bool
+where
+    F: Fn(&[u32]) -> bool,
+    requires { F.IsAlwaysCallable is_right }
+{
+    match out.split_at_checked(count) {
+        Some((written, rest)) => is_right(written) && rest.iter().all(|w| *w == MARK),
         None => false,
     }
 }
 
+// Whether the lent words begin with the expected ones and keep the mark behind them.
+fn has_words(expected: &[u32], out: &[u32]) -> bool {
+    has_written(out, expected.len(), |written| written == expected)
+}
+
 // Whether the lent words are the expected ones, all different, in any order, and the mark behind them.
 fn has_words_in_any_order(expected: &[u32], out: &[u32]) -> bool {
-    match out.split_at_checked(expected.len()) {
-        Some((written, rest)) => {
-            expected.iter().all(|w| written.contains(w)) && rest.iter().all(|w| *w == MARK)
-        }
-        None => false,
-    }
+    has_written(
+        out,
+        expected.len(),
+        |written| expected.iter().all(|w| written.contains(w)),
+    )
 }
 
 // A case of a call: its numbers, the module's words up to '=>', the expected ones behind it.

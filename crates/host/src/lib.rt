@@ -35,7 +35,8 @@ pub extern "C" fn gingerpost_report(bytes: &[u8], out: &mut [u8]) -> u64
     number(entry::<Reporting>(bytes, out))
 }
 
-// The job on bytes, with arrays of one of five sizes: short ones are cleared sooner.
+// The job on bytes, with arrays of one of five sizes: memory is fixed, and short arrays are cleared sooner. A line for each size: no const argument can be
+// computed.
 #[tactic(auto, using(crate::specs::EntryLaws::good_length))]
 fn entry<J: Job>(bytes: &[u8], out: &mut [u8]) -> Result<Written, Refusal>
     ensures numbers { numbers_of result ≡ answer_bytes bytes.now (J.words (words_of_bytes bytes.now)) out.old }

@@ -17,7 +17,7 @@ use class_stack::ClassStack;
 use grammar::Refusal;
 use records::Note;
 
-// What a call wrote: how many words, and how many symbols of them are fresh.
+// What a call wrote: how many words, and how many fresh symbols there are.
 #[derive(Clone, Copy, Debug, PartialEq, Eq)]
 pub struct Written {
     pub words: usize,
@@ -51,8 +51,7 @@ impl From<Result<Written, Refusal>> for Numbers {
     }
 }
 
-// What a call is for: the rewriting or the symbol report. Its answer for a module is that for `words`, which it may write in any order that counts as the
-// `Same`.
+// What a call is for: the rewriting or the symbol report. Its answer for a module is the list `words`, in any order that counts as the `Same`.
 pub trait Job {
     ghost words: { List ℕ → List ℕ };
 
@@ -161,6 +160,7 @@ fn has_room(ws: &[u32], notes: &[Note], room: usize) -> bool
     requires { (refusal ws.now ≡ 0) × Planned ws.now notes.now × Annotated ws.now notes.now 0 }
     ensures { result ≡ leb (length (module_words ws.now)) room }
 {
+    // Not one `||`: the second test has `let`s of its own.
     if ws.len() <= room / 3 {
         return true;
     }

@@ -59,6 +59,7 @@ fn has_room(ws: &[u32], notes: &[Note], room: usize) -> bool
     requires { (refusal ws.now ≡ 0) × Planned ws.now notes.now }
     ensures { result ≡ leb (length (report_words ws.now)) room }
 {
+    // Not one `||`: the second test has `let`s of its own.
     if ws.len() / 3 <= room {
         return true;
     }
