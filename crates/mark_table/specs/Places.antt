@@ -2,13 +2,13 @@
 use Rattle.std.specs.Prelude.{◌≡◌, refl, Bool, true, false, not, List, [], ◌∷◌, ℕ, ◌+◌, ◌-◌, ◌<◌, length, eqb, ◌≤◌}
 use Rattle.std.proofs.Common.{ap, sym, ◌∙◌, arith, eq-eqb, ne_eqb, eqb-true}
 use Rattle.std.proofs.lemmas.Bool.{eqb-false}
-use Rattle.records.specs.Place.{records_at, label_at, arity_at, kids_at, end_of, end_add}
+use Rattle.records.specs.Place.{records_at, label_at, arity_at, kids_at, end_of}
 use Rattle.grammar.specs.Grammar.{module'}
 use Rattle.grammar.specs.WellFormed.{Fits}
 use Rattle.rewriting.specs.Parts.{is_empty, decorators, parameters_of, constructor_decorated, is_constructor, is_decorated, is_decorated_member}
 use Rattle.inspect.specs.Row.{any_row}
 use Rattle.inspect.specs.Class.{has_decorators, parameters_any, member_31, member_32, member_method}
-use Rattle.walk_laws.specs.Elements.{Marked, Called, key_at, parameters_at, counted_36, marked_empty, called_read, method_called, property_keyed, accessor_keyed}
+use Rattle.walk_laws.specs.Elements.{Marked, Called, marked_empty, called_read, method_called, property_keyed, accessor_keyed}
 use Rattle.walk_laws.specs.ClassPlaces.{class_marked, class_body}
 
 module _ (ws : List ℕ) (whole : Fits (module' ∷ []) (records_at ws 0)) (at : ℕ) where
@@ -52,11 +52,6 @@ module _ (ws : List ℕ) (whole : Fits (module' ∷ []) (records_at ws 0)) (at :
     module _ (kind : (label_at ws at).kind ≡ 30) where
       called : Called ws at
       called = method_called ws at whole h kind
-
-      -- its 36
-      pub third_place : (end_of ws (at + 1) 2 < length ws) × (arity_at ws (end_of ws (at + 1) 2) ≡ (label_at ws (end_of ws (at + 1) 2)).payload)
-      unfolding key_at parameters_at
-      third_place = rw (end_add ws (at + 1) 1 1) (called.place, counted_36 ws _ called.kind)
 
       module _ (c : is_constructor (label_at ws at) ≡ false) where
         pub method_own : ((label_at ws (at + 1)).payload ≡ 0 → ⊥) → is_decorated_member (label_at ws at) (kids_at ws at) ≡ true
