@@ -20,9 +20,11 @@ ghost use Rattle.inspect.specs.Class.{has_decorators, constructs, is_decorated_c
 ghost use Rattle.inspect.specs.Private.{private_in, private_in_element};
 
 mod reading;
+mod word_reader;
 
 pub use reading::Reader;
 use records::Note;
+pub use word_reader::WordReader;
 use words::Kind;
 
 // ---- the word at a place
@@ -189,9 +191,16 @@ fn member_decorated(ws: &[u32], notes: &[Note], at: usize) -> bool
     }
 }
 
+// Rule 5: does a key of this kind give a name as it stands?
+pub fn is_plain_key(kind: u32) -> bool
+    ensures { result ≡ is_plain_key (kind ∶ 0) }
+{
+    kind < 64 && is_plain_key_word(words::word_of(kind, 0))
+}
+
 // Rule 5: does a key with this word give a name as it stands?
 #[tactic(auto, using(crate::specs::Class::not_plain), unfolding(records::specs::Label::read_at))]
-pub fn is_plain_key(w: u32) -> bool
+pub fn is_plain_key_word(w: u32) -> bool
     ensures { result ≡ is_plain_key (read_at 0 w) }
 {
     matches!(
@@ -212,7 +221,7 @@ pub fn plain_key(ws: &[u32], notes: &[Note], at: usize) -> bool
     requires { Ends ws.now notes.now 0 }
     ensures { result ≡ has_plain_key (kids_at ws.now at) }
 {
-    is_plain_key(second_word(ws, notes, at))
+    is_plain_key_word(second_word(ws, notes, at))
 }
 
 // Is the element at `at` a constructor with a decorated parameter?

@@ -3,7 +3,7 @@ ghost use Rattle.std.specs.Prelude.{◌≡◌, ◌-◌, get_or};
 ghost use Rattle.records.specs.Ends.{Ends};
 ghost use Rattle.records.specs.Place.{end_of};
 
-use crate::word_at;
+use crate::{WordReader, word_at};
 use records::Note;
 
 // The records that are read next: the words and their notes, the place of the first, and how many. As an iterator it gives the place of each, none past
@@ -42,6 +42,13 @@ impl<'a> Reader<'a> {
     ghost use Rattle.records.specs.Forest.{take_f};
     ghost use Rattle.records.specs.Place.{records_at};
     ghost use Rattle.inspect.specs.Reads.{Reads};
+
+    // The words at `at`, where no notes are at hand.
+    pub fn new(words: &'a [u32], at: usize) -> WordReader<'a>
+        ensures { (result.words ≡ words.entry) × (result.at ≡ at) }
+    {
+        WordReader { words, at }
+    }
 
     // The k records at `at`.
     pub fn records(words: &'a [u32], notes: &'a [Note], at: usize, k: usize) -> Reader<'a>

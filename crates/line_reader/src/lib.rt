@@ -199,7 +199,9 @@ impl Stage {
         ensures { Stored ws.old at (word_of_line self) ws.new result }
     {
         match self {
-            Stage::Payload(k, p) | Stage::End(k, p) => store(ws, at, words::word_of(k, p)),
+            // Two arms, not one: the compiler then makes one jump of what goes by the stage at a line feed (speed).
+            Stage::Payload(k, p) => store(ws, at, words::word_of(k, p)),
+            Stage::End(k, p) => store(ws, at, words::word_of(k, p)),
             _ => at,
         }
     }
@@ -271,8 +273,11 @@ impl Reading {
         requires { Ready ws.old self.old }
         ensures { Follows bytes.now ws.old self.old ws.new self.new }
     {
+        // A copy: what has been read stays in registers from byte to byte (speed).
+        let mut reading = *self;
         for b in bytes {
-            self.read_byte(*b, ws);
+            reading.read_byte(*b, ws);
         }
+        *self = reading;
     }
 }

@@ -193,6 +193,11 @@ unfolding numbers_of
 demand_of ws o o' (Ok w) e l = demand_written ws o o' w.words w.fresh e l
 demand_of ws o o' (Err r) e l = tt
 
+-- what the rewriting's job lends, in the only order that counts
+pub job_lent : (ws o o' : List ℕ) → Lends (λ ys xs. ys ≡ xs) ws (module_words ws) o o' → o' ≡ rewrite_lent ws o
+unfolding rewrite_answer rewrite_lent
+job_lent ws o o' l = l.lent ∙ ap (λ (ys : List ℕ). lent_after (answer_of ws (module_words ws) (length o)) ys o) l.same
+
 -- ---- refusals 1 to 7
 
 module _ (ws : List ℕ) where

@@ -133,6 +133,20 @@ impl Job for Rewriting {
     ghost fits = { module_length };
 }
 
+// `rewrite` of a module that validation accepts; notes for all of its words are lent.
+pub fn rewrite_by(
+    ws: &[u32],
+    notes: &mut [Note],
+    out: &mut [u32],
+) -> Result<Written, Refusal>
+    requires { (refusal ws.now ≡ 0) × (length ws.now ≤ length notes.old) }
+    ensures numbers { numbers_of result ≡ rewrite_answer ws.now out.old }
+    ensures lent { out.new ≡ rewrite_lent ws.now out.old }
+    ensures demand { IfOk result (λ w. DemandWords ws.now (take w.words out.new)) }
+{
+    Rewriting::run(ws, notes, out)
+}
+
 // Refusals 1 to 7.
 pub fn turned_back(ws: &[u32]) -> Result<(), Refusal>
     ensures { code_of result ≡ turned_back ws.now }

@@ -147,8 +147,9 @@ fn records(
     v
 }
 
-// A record that isn't copied.
+// A record that isn't copied. In line in its two callers, the loops: a level of depth takes one frame fewer.
 #[cycle(transform)]
+#[inline(always)]
 fn record(ws: &[u32], notes: &[Note], a: Around, w: Walk, c: ClassStack, out: &mut [u32]) -> Walk
     requires { Asks ws.now notes.now w.at 1 w.state.next c w.pos (size (here_at ws.now w.at 1 a w.state)) × (w.count ≤ w.pos) × (w.at < length ws.now) × (1 ≤ w.at) }
     ensures { Emitted ws.now w.at 1 a w.state c out.old w.pos w.count out.new result }
@@ -726,8 +727,9 @@ fn alias_of(notes: &[Note], at: usize, n: u32) -> Option<u32>
     None
 }
 
-// A class statement whose class is live, and rewritten.
+// A class statement whose class is live, and rewritten. Apart, as `queue` is: the loops' frames stay small, and records nest 64 deep.
 #[cycle(transform)]
+#[inline(never)]
 fn statement(ws: &[u32], notes: &[Note], a: Around, w: Walk, c: ClassStack, out: &mut [u32]) -> Walk
     requires { Asks ws.now notes.now w.at 1 w.state.next c w.pos (size (here_at ws.now w.at 1 a w.state)) × (w.count ≤ w.pos) × (w.at < length ws.now) × ((label_at ws.now w.at).kind ≡ number ClassStatement) × (is_live (take_f 1 (records_at ws.now (w.at + 1))) ≡ true) }
     ensures { Emitted ws.now w.at 1 a w.state c out.old w.pos w.count out.new result }
@@ -993,6 +995,7 @@ pub struct Queued {
 
 // Rule 10: what stands behind the statement at `at`, from the start of its part of the output; n is the counter in front of the class.
 #[cycle(transform)]
+#[inline(never)]
 fn queue(
     ws: &[u32],
     notes: &[Note],

@@ -1,12 +1,15 @@
--- `is_plain_key`: one of the six kinds of rule 5.
-use native.Mathlib.Omega.{arith}
+-- `is_plain_key`: by a word of the kind; a number that is no kind's gives none.
+use Rattle.std.proofs.Common.{◌∙◌, refl, arith}
 use Rattle.std.proofs.lemmas.Bool.Decides.{nat_tests}
-use Rattle.records.specs.Label.{read_at, is}
+use Rattle.words.specs.Word.{kind_of_lem}
+use Rattle.records.specs.Label.{◌∶◌, read_at, is}
 use Rattle.rewriting.specs.Parts.{is_plain_key}
 use Rattle.inspect.proofs.is_plain_key.Goals as goal
 
-pub returns-in-Some-String : goal.returns-in-Some-String
-unfolding is_plain_key is read_at
-returns-in-Some-String c =
-    let n = c.in-Some-String.ensures.number in
-    grind (arith, nat_tests, n)
+pub returns-then-kind-lt64 : goal.returns-then-kind-lt64
+unfolding is_plain_key is ◌∶◌ read_at
+returns-then-kind-lt64 c = c.is_plain_key_word.ensures ∙ rw (c.word_of.ensures, kind_of_lem c.args.kind 0 (omega arith)) refl
+
+pub returns-else-kind-lt64 : goal.returns-else-kind-lt64
+unfolding is_plain_key is ◌∶◌
+returns-else-kind-lt64 c = grind (arith, nat_tests, c.if-kind-lt64.false)

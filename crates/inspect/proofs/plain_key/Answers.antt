@@ -9,4 +9,4 @@ unfolding label_at
 returns c =
     let a = c.args in
     let s = c.second_word.ensures in
-    c.is_plain_key.ensures ∙ plain_read a.ws.now s.place _ s.word ∙ key_second a.ws.now a.at s.place s.second
+    c.is_plain_key_word.ensures ∙ plain_read a.ws.now s.place _ s.word ∙ key_second a.ws.now a.at s.place s.second

@@ -4,8 +4,8 @@
 //! three is damaged: a word changed, lost, doubled or put in, a symbol too many, a decorated constructor. Records nest down to DEPTH, which is 64 if it
 //! isn't given, so that 65 gives modules that are too deep.
 //!
-//! modules deepest: modules whose records nest down to depth 64, one for each way to go down and for each two ways in turn, and one that takes the
-//! most stack of those that are known; each of them short, and with a thousand statements more.
+//! modules deepest: modules whose records nest down to depth 64, one for each way to go down and for each two ways in turn, one of declared classes and
+//! one of blocks with a class in the innermost; each of them short, and with a thousand statements more.
 use gingerpost::word;
 use std::env;
 use std::fmt::Write;
@@ -403,6 +403,7 @@ fn main() {
             }
         }
         longer_too(&format!("1:1 40:1 {}2:0 16:1 9:0", "4:0 26:3 28:0 27:0 29:1 30:4 28:0 34:1 36:0 39:1 ".repeat(12)));
+        longer_too(&format!("1:1 40:1 {}4:0 26:1 28:1 9:0 27:0 29:0", "3:1 ".repeat(59)));
         return;
     }
     let given: Vec<u64> = env::args().skip(1).map_while(|a| a.parse().ok()).collect();

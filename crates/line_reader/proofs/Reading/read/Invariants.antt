@@ -4,4 +4,4 @@ use Rattle.line_reader.specs.Text.{Follows}
 use Rattle.line_reader.proofs.Reading.read.Given as goal
 
 abbrev pub invariant-loop-b : goal.invariant-loop-b
-invariant-loop-b l = Follows (take l.b-index l.bytes) l.initial.ws l.initial.self l.ws l.self
+invariant-loop-b l = Follows (take l.b-index l.bytes) l.initial.ws l.initial.reading l.ws l.reading
