@@ -12,7 +12,7 @@ ghost use Rattle.host.specs.Entry.{number_of, InFields, answer_in, answer_bytes,
 ghost use Rattle.host.specs.LendsBytes.{LendsBytes};
 
 use grammar::Refusal;
-use records::Note;
+use records::{BLANK, Note};
 use rewriter::{Job, Numbers, Rewriting, Written};
 use symbol_report::Reporting;
 
@@ -74,7 +74,7 @@ fn entry_by<J: Job, const WORDS: usize, const ROOM: usize>(
     let n = bytes.len() / 4;
     let mut ws = [0u32; WORDS];
     read(bytes, &mut ws)?;
-    let mut notes = [Note::default(); WORDS];
+    let mut notes = [BLANK; WORDS];
     let mut written = [0u32; ROOM];
     let answer = J::run(&ws[..n], &mut notes, &mut written)?;
     if out.len() / 4 < answer.words {

@@ -15,6 +15,14 @@ pub struct Note {
     pub still: bool,
 }
 
+// The note of a place that wasn't noted yet. A constant: an array of it is cleared in one piece (speed).
+pub const BLANK: Note = Note {
+    end: 0,
+    count: 0,
+    marked: false,
+    still: false,
+};
+
 // Notes of each place where the record there ends, from the last place to the first.
 pub fn find_ends(ws: &[u32], notes: &mut [Note])
     requires { (length ws.now ≤ length notes.old) × (length ws.now < 65536) }

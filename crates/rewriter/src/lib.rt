@@ -15,7 +15,7 @@ ghost use Rattle.rewriter.specs.Result.{Writes};
 
 use class_stack::ClassStack;
 use grammar::Refusal;
-use records::Note;
+use records::{BLANK, Note};
 
 // What a call wrote: how many words, and how many fresh symbols there are.
 #[derive(Clone, Copy, Debug, PartialEq, Eq)]
@@ -91,7 +91,7 @@ fn with_notes<J: Job, const N: usize>(ws: &[u32], out: &mut [u32]) -> Result<Wri
     ensures numbers { numbers_of result ≡ answer_of ws.now (J.words ws.now) (length out.old) }
     ensures lent { Lends J.Same ws.now (J.words ws.now) out.old out.new }
 {
-    let mut notes = [Note::default(); N];
+    let mut notes = [BLANK; N];
     J::run(ws, &mut notes, out)
 }
 
@@ -152,7 +152,7 @@ pub fn turned_back(ws: &[u32]) -> Result<(), Refusal>
     ensures { code_of result ≡ turned_back ws.now }
 {
     validation::validate(ws)?;
-    let mut notes = [Note::default(); 4096];
+    let mut notes = [BLANK; 4096];
     turned_back_by(ws, &mut notes)
 }
 
