@@ -5,19 +5,23 @@
 
 ghost use Rattle.std.specs.Prelude.{◌≤◌, IfOk};
 
-use anyhow::{Context, Result};
 use case_lines::{Outcome, Tally};
 use grammar::Refusal;
 use rewriter::{Numbers, Written};
-use std::alloc::Global;
+use std::io;
 
 // What both calls answer.
-type Answer = std::result::Result<Written, Refusal>;
+type Answer = Result<Written, Refusal>;
 
 // A word that no module has.
 const MARK: u32 = u32::MAX;
 
-// Whether so many of the lent words are right by a test, and those behind them keep the mark.
+// The most words of a module, and the most that can be expected or lent: of a longer one those in front are read, and a case that lends more is wrong.
+const MAX_WORDS: usize = 8192;
+
+const MAX_OUTPUT: usize = 12288;
+
+// Whether the lent words are right by a test, and those behind so many keep the mark.
 fn has_written<F>(out: &[u32], count: usize, is_right: F) -> bool
 where
     F: Fn(&[u32]) -> bool,
@@ -39,54 +43,77 @@ fn has_words_in_any_order(expected: &[u32], out: &[u32]) -> bool {
     has_written(
         out,
         expected.len(),
-        |written| expected.iter().all(|w| written.contains(w)),
+        |_| expected.iter().all(|w| out.contains(w)),
     )
 }
 
-// A case of a call: its numbers, the module's words up to '=>', the expected ones behind it.
-fn run_case<F, G>(alloc: Global, case: &str, call: F, has_expected: G) -> Result<Outcome>
-where
-    F: Fn(&[u32], &mut [u32]) -> Answer,
-    G: Fn(&[u32], &[u32]) -> bool,
-    requires call { F.IsAlwaysCallable call }
-    requires has_expected { G.IsAlwaysCallable has_expected }
-{
-    let (asked, expected) = case.split_once("=>").context("a case has no '=>'")?;
-    let mut items = asked.split_whitespace();
-    let room = case_lines::read_number(&mut items)? as usize;
-    let expected_numbers = Numbers {
-        code: case_lines::read_number(&mut items)?,
-        written: case_lines::read_number(&mut items)? as usize,
-        fresh: case_lines::read_number(&mut items)?,
-    };
-    let module = case_lines::read_words(alloc, items)?;
-    let expected = case_lines::read_words(alloc, expected.split_whitespace())?;
-    let mut out = vec![in alloc; MARK; room]?;
-    let numbers = Numbers::from(call(&module, &mut out));
-    Ok(Outcome {
-        right: numbers == expected_numbers
-            && numbers.written == expected.len()
-            && has_expected(&expected, &out),
-        answer: None,
-    })
+// Room for the words of a case, made once.
+#[derive(Drop)]
+struct Buffers {
+    module: [u32; MAX_WORDS],
+    expected: [u32; MAX_OUTPUT],
+    lent: [u32; MAX_OUTPUT],
+}
+
+impl Buffers {
+    fn new() -> Self {
+        Buffers {
+            module: [0; MAX_WORDS],
+            expected: [0; MAX_OUTPUT],
+            lent: [0; MAX_OUTPUT],
+        }
+    }
+
+    // A case of a call: its numbers, the module's words up to '=', the expected ones behind it.
+    fn run_case<F, G>(&mut self, case: &[u8], call: F, has_expected: G) -> Outcome
+    where
+        F: Fn(&[u32], &mut [u32]) -> Answer,
+        G: Fn(&[u32], &[u32]) -> bool,
+        requires call { F.IsAlwaysCallable call }
+        requires has_expected { G.IsAlwaysCallable has_expected }
+    {
+        let mut bytes = case.iter();
+        let room = case_lines::read_number(&mut bytes) as usize;
+        let numbers = Numbers {
+            code: case_lines::read_number(&mut bytes),
+            written: case_lines::read_number(&mut bytes) as usize,
+            fresh: case_lines::read_number(&mut bytes),
+        };
+        let (asked, expected) = case_lines::split_before(case, b'=');
+        let count = case_lines::read_words(&mut self.module, asked);
+        let module = &self.module[..count];
+        let count = case_lines::read_words(&mut self.expected, expected);
+        let expected = &self.expected[..count];
+        let right = match self.lent.get_mut(..room) {
+            Some(out) if numbers.written == expected.len() => {
+                out.fill(MARK);
+                Numbers::from(call(module, out)) == numbers && has_expected(expected, out)
+            }
+            _ => false,
+        };
+        Outcome {
+            right,
+            answer: None,
+        }
+    }
 }
 
 // Runs the cases of the rewriter that standard input lists.
-pub fn run_rewriter(rt: &(impl Input + Print + AllocGlobal)) -> Result<Tally>
+pub fn run_rewriter(rt: &(impl Input + Print + AllocGlobal)) -> io::Result<Tally>
     ensures { IfOk result (λ t. t.wrong ≤ t.cases) }
 {
-    let alloc = rt.alloc();
+    let mut buffers = Buffers::new();
     case_lines::run(rt, |case| {
-        run_case(alloc, case, rewriter::rewrite, has_words)
+        buffers.run_case(case, rewriter::rewrite, has_words)
     })
 }
 
 // Runs the cases of the symbol report that standard input lists.
-pub fn run_report(rt: &(impl Input + Print + AllocGlobal)) -> Result<Tally>
+pub fn run_report(rt: &(impl Input + Print + AllocGlobal)) -> io::Result<Tally>
     ensures { IfOk result (λ t. t.wrong ≤ t.cases) }
 {
-    let alloc = rt.alloc();
+    let mut buffers = Buffers::new();
     case_lines::run(rt, |case| {
-        run_case(alloc, case, symbol_report::report, has_words_in_any_order)
+        buffers.run_case(case, symbol_report::report, has_words_in_any_order)
     })
 }

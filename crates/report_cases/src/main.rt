@@ -1,7 +1,9 @@
 // Runs the cases of the symbol report that standard input lists.
 #![tactic(auto)]
 
-fn main(rt: HostRuntime) -> anyhow::Result<()> {
+use std::io;
+
+fn main(rt: HostRuntime) -> io::Result<()> {
     let tally = case_runs::run_report(&rt)?;
-    Ok(rt.println(tally)?)
+    rt.println(tally)
 }

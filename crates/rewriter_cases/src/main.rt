@@ -1,7 +1,9 @@
 // Runs the cases of the rewriter that standard input lists: the twelve, and more.
 #![tactic(auto)]
 
-fn main(rt: HostRuntime) -> anyhow::Result<()> {
+use std::io;
+
+fn main(rt: HostRuntime) -> io::Result<()> {
     let tally = case_runs::run_rewriter(&rt)?;
-    Ok(rt.println(tally)?)
+    rt.println(tally)
 }

@@ -2,9 +2,11 @@
 // behind '#', what the case shows. A line that begins with '#' is a heading.
 #![tactic(auto)]
 
-use anyhow::Result;
 use case_lines::Outcome;
-use std::alloc::Global;
+use std::io;
+
+// The most words of a module: of a longer one those in front are read.
+const MAX_WORDS: usize = 8192;
 
 // The number of the refusal that validation answers, or 0.
 fn answer(module: &[u32]) -> u32 {
@@ -14,20 +16,19 @@ fn answer(module: &[u32]) -> u32 {
     }
 }
 
-// A case: the number in front, the words behind.
-fn run_case(alloc: Global, case: &str) -> Result<Outcome> {
-    let mut items = case.split_whitespace();
-    let expected = case_lines::read_number(&mut items)?;
-    let module = case_lines::read_words(alloc, items)?;
-    let answer = answer(&module);
-    Ok(Outcome {
-        right: answer == expected,
+// A case: the number in front, which is one digit, and the words behind.
+fn run_case(words: &mut [u32], case: &[u8]) -> Outcome {
+    let expected = case.first().map(|b| u32::from(b.saturating_sub(b'0')));
+    let count = case_lines::read_words(words, case);
+    let answer = answer(&words[..count]);
+    Outcome {
+        right: expected == Some(answer),
         answer: Some(answer),
-    })
+    }
 }
 
-fn main(rt: HostRuntime) -> Result<()> {
-    let alloc = rt.alloc();
-    let tally = case_lines::run(&rt, |case| run_case(alloc, case))?;
-    Ok(rt.println(tally)?)
+fn main(rt: HostRuntime) -> io::Result<()> {
+    let mut words = [0; MAX_WORDS];
+    let tally = case_lines::run(&rt, |case| run_case(&mut words, case))?;
+    rt.println(tally)
 }
