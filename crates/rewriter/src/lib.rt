@@ -134,11 +134,7 @@ impl Job for Rewriting {
 }
 
 // `rewrite` of a module that validation accepts; notes for all of its words are lent.
-pub fn rewrite_by(
-    ws: &[u32],
-    notes: &mut [Note],
-    out: &mut [u32],
-) -> Result<Written, Refusal>
+pub fn rewrite_by(ws: &[u32], notes: &mut [Note], out: &mut [u32]) -> Result<Written, Refusal>
     requires { (refusal ws.now ≡ 0) × (length ws.now ≤ length notes.old) }
     ensures numbers { numbers_of result ≡ rewrite_answer ws.now out.old }
     ensures lent { out.new ≡ rewrite_lent ws.now out.old }
