@@ -69,7 +69,7 @@ pub fn word_behind(ws: &[u32], notes: &[Note], at: usize, k: usize) -> u32
     requires { Ends ws.now notes.now 0 }
     ensures { result ≡ get_or ws.now (end_of ws.now at k) 0 }
 {
-    Reader::records(ws, notes, at, k).behind(k).word()
+    Reader::new(ws, at).behind(notes, k).word()
 }
 
 // ---- children, by kind and by position; the end of the words stands for the place of one that is missing, 0 for its word
