@@ -2,7 +2,7 @@
 // and the count of cases. (..)*N stands for its words N times over. A number without a kind is no word. What is none of these is passed over.
 #![tactic(auto)]
 
-ghost use Rattle.std.specs.Prelude.{◌+◌, ◌≡◌, ◌≢◌, ◌≤◌, ◌++◌, All, Some, IfOk, codes, decimal, length, min};
+ghost use Rattle.std.specs.Prelude.{◌+◌, ◌*◌, ◌≡◌, ◌≢◌, ◌≤◌, ◌++◌, All, Some, IfOk, codes, decimal, length, min};
 ghost use Rattle.std.specs.Bool.{OnTrue, OnFalse};
 
 use std::io::Read;
@@ -61,15 +61,26 @@ pub struct Outcome {
     pub answer: Option<u32>,
 }
 
-// The number with one more digit. From nine digits on it stays as it is.
-fn with_digit(number: u32, digit: u8) -> u32 {
+// The number with one more digit, up to the largest. Behind up to eight digits a further one can't pass it (speed).
+fn with_digit(number: u32, digit: u8) -> u32
+    ensures { result ≡ min (number * 10 + digit) 4294967295 }
+{
+    if number > 99999999 {
+        return number.saturating_mul(10).saturating_add(u32::from(digit));
+    }
+    number * 10 + u32::from(digit)
+}
+
+// The same in an item, where from nine digits on a number stays as it is: no word has as many, and a group is repeated as far as there is room. A step
+// for all numbers takes longer at each digit (speed).
+fn with_item_digit(number: u32, digit: u8) -> u32 {
     if number > 99999999 {
         return number;
     }
     number * 10 + u32::from(digit)
 }
 
-// The number whose digits come next, or 0; the byte that ends it is passed over.
+// The number whose digits come next, up to the largest, or 0; the byte that ends it is passed over.
 pub fn read_number(bytes: &mut Iter<'_, u8>) -> u32 {
     let mut number = 0;
     for b in bytes {
@@ -160,7 +171,7 @@ impl Reading<'_> {
         ensures { self.new.words.ghost_name ≡ self.old.words.ghost_name }
     {
         match b {
-            b'0'..=b'9' => self.number = with_digit(self.number, b - b'0'),
+            b'0'..=b'9' => self.number = with_item_digit(self.number, b - b'0'),
             b':' => {
                 self.ends = Ends::Word(self.number);
                 self.number = 0;
@@ -251,4 +262,31 @@ pub fn run<R: Input + Print + AllocGlobal, F: FnMut(&[u8]) -> Outcome>(
         write_line(rt, title)?;
     }
     Ok(tally.capped())
+}
+
+#[cfg(test)]
+mod tests {
+    use super::*;
+
+    #[test]
+    fn reads_every_number(rt: HostRuntime) {
+        let cases = [
+            ("", 0),
+            ("7", 7),
+            ("0042 9", 42),
+            ("999999999", 999999999),
+            ("1000000000", 1000000000),
+            ("4294967295 ", 4294967295),
+            ("4294967296", 4294967295),
+            ("99999999999999999999", 4294967295),
+            ("x5", 0),
+        ];
+        for (text, number) in cases {
+            assert_eq!(rt;
+                read_number(&mut text.as_bytes().iter()),
+                number,
+                "at '{text}'"
+            );
+        }
+    }
 }

@@ -16,7 +16,7 @@ type Answer = Result<Written, Refusal>;
 // A word that no module has.
 const MARK: u32 = u32::MAX;
 
-// The most words of a module, and the most that can be expected or lent: of a longer one those in front are read, and a case that lends more is wrong.
+// How many words the programs lend: for a module; for what is expected, and for what a case lends.
 const MAX_WORDS: usize = 8192;
 
 const MAX_OUTPUT: usize = 12288;
@@ -47,23 +47,16 @@ fn has_words_in_any_order(expected: &[u32], out: &[u32]) -> bool {
     )
 }
 
-// Room for the words of a case, made once.
+// Words that are lent for a case: for its module, for what is expected, and for what it lends to the call. Of a longer module, and of more expected words,
+// those in front are read; a case that lends more is wrong.
 #[derive(Drop)]
-struct Buffers {
-    module: [u32; MAX_WORDS],
-    expected: [u32; MAX_OUTPUT],
-    lent: [u32; MAX_OUTPUT],
+pub struct Buffers<'a> {
+    pub module: &'a mut [u32],
+    pub expected: &'a mut [u32],
+    pub lent: &'a mut [u32],
 }
 
-impl Buffers {
-    fn new() -> Self {
-        Buffers {
-            module: [0; MAX_WORDS],
-            expected: [0; MAX_OUTPUT],
-            lent: [0; MAX_OUTPUT],
-        }
-    }
-
+impl Buffers<'_> {
     // A case of a call: its numbers, the module's words up to '=', the expected ones behind it.
     fn run_case<F, G>(&mut self, case: &[u8], call: F, has_expected: G) -> Outcome
     where
@@ -80,11 +73,14 @@ impl Buffers {
             fresh: case_lines::read_number(&mut bytes),
         };
         let (asked, expected) = case_lines::split_before(case, b'=');
-        let count = case_lines::read_words(&mut self.module, asked);
-        let module = &self.module[..count];
-        let count = case_lines::read_words(&mut self.expected, expected);
-        let expected = &self.expected[..count];
-        let right = match self.lent.get_mut(..room) {
+        let words = &mut *self.module;
+        let count = case_lines::read_words(words, asked);
+        let module = &words[..count];
+        let words = &mut *self.expected;
+        let count = case_lines::read_words(words, expected);
+        let expected = &words[..count];
+        let lent = &mut *self.lent;
+        let right = match lent.get_mut(..room) {
             Some(out) if numbers.written == expected.len() => {
                 out.fill(MARK);
                 Numbers::from(call(module, out)) == numbers && has_expected(expected, out)
@@ -96,24 +92,48 @@ impl Buffers {
             answer: None,
         }
     }
+
+    // Runs the cases of the rewriter that standard input lists.
+    pub fn run_rewriter(mut self, rt: &(impl Input + Print + AllocGlobal)) -> io::Result<Tally>
+        ensures { IfOk result (λ t. t.wrong ≤ t.cases) }
+    {
+        case_lines::run(rt, |case| self.run_case(case, rewriter::rewrite, has_words))
+    }
+
+    // Runs the cases of the symbol report that standard input lists.
+    pub fn run_report(mut self, rt: &(impl Input + Print + AllocGlobal)) -> io::Result<Tally>
+        ensures { IfOk result (λ t. t.wrong ≤ t.cases) }
+    {
+        case_lines::run(
+            rt,
+            |case| self.run_case(case, symbol_report::report, has_words_in_any_order),
+        )
+    }
 }
 
-// Runs the cases of the rewriter that standard input lists.
+// Runs the cases of the rewriter that standard input lists, in as many words as a program lends.
 pub fn run_rewriter(rt: &(impl Input + Print + AllocGlobal)) -> io::Result<Tally>
     ensures { IfOk result (λ t. t.wrong ≤ t.cases) }
 {
-    let mut buffers = Buffers::new();
-    case_lines::run(rt, |case| {
-        buffers.run_case(case, rewriter::rewrite, has_words)
-    })
+    let buffers = Buffers {
+        module: &mut [0; MAX_WORDS],
+        expected: &mut [0; MAX_OUTPUT],
+        lent: &mut [0; MAX_OUTPUT],
+    };
+    buffers.run_rewriter(rt)
 }
 
-// Runs the cases of the symbol report that standard input lists.
+// Runs the cases of the symbol report that standard input lists, in as many words as a program lends.
 pub fn run_report(rt: &(impl Input + Print + AllocGlobal)) -> io::Result<Tally>
     ensures { IfOk result (λ t. t.wrong ≤ t.cases) }
 {
-    let mut buffers = Buffers::new();
-    case_lines::run(rt, |case| {
-        buffers.run_case(case, symbol_report::report, has_words_in_any_order)
-    })
+    let buffers = Buffers {
+        module: &mut [0; MAX_WORDS],
+        expected: &mut [0; MAX_OUTPUT],
+        lent: &mut [0; MAX_OUTPUT],
+    };
+    buffers.run_report(rt)
 }
+
+#[cfg(test)]
+mod tests;
