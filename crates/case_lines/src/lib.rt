@@ -61,7 +61,7 @@ pub struct Outcome {
     pub answer: Option<u32>,
 }
 
-// The number with one more digit, up to the largest. Behind up to eight digits a further one can't pass it (speed).
+// The number with one more digit, up to the largest. One of up to eight digits has room for a further one without a test (speed).
 fn with_digit(number: u32, digit: u8) -> u32
     ensures { result ≡ min (number * 10 + digit) 4294967295 }
 {
@@ -71,8 +71,8 @@ fn with_digit(number: u32, digit: u8) -> u32
     number * 10 + u32::from(digit)
 }
 
-// The same in an item, where from nine digits on a number stays as it is: no word has as many, and a group is repeated as far as there is room. A step
-// for all numbers takes longer at each digit (speed).
+// The same in an item, but from nine digits on a number stays as it is: no word has as many, and repeated so often a group fills 100,000,000 words. One
+// step for all numbers takes longer at each digit (speed).
 fn with_item_digit(number: u32, digit: u8) -> u32 {
     if number > 99999999 {
         return number;

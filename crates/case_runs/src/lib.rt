@@ -16,7 +16,7 @@ type Answer = Result<Written, Refusal>;
 // A word that no module has.
 const MARK: u32 = u32::MAX;
 
-// How many words the programs lend: for a module; for what is expected, and for what a case lends.
+// How many words the programs lend: for a module; for what is expected, and for the output.
 const MAX_WORDS: usize = 8192;
 
 const MAX_OUTPUT: usize = 12288;
@@ -47,13 +47,13 @@ fn has_words_in_any_order(expected: &[u32], out: &[u32]) -> bool {
     )
 }
 
-// Words that are lent for a case: for its module, for what is expected, and for what it lends to the call. Of a longer module, and of more expected words,
-// those in front are read; a case that lends more is wrong.
+// Words for a case, lent: for its module, for what is expected, and for the output that the case lends to the call. Of a longer module, and of more
+// expected words, those in front are read; a case that lends more is wrong.
 #[derive(Drop)]
 pub struct Buffers<'a> {
     pub module: &'a mut [u32],
     pub expected: &'a mut [u32],
-    pub lent: &'a mut [u32],
+    pub output: &'a mut [u32],
 }
 
 impl Buffers<'_> {
@@ -79,8 +79,8 @@ impl Buffers<'_> {
         let words = &mut *self.expected;
         let count = case_lines::read_words(words, expected);
         let expected = &words[..count];
-        let lent = &mut *self.lent;
-        let right = match lent.get_mut(..room) {
+        let output = &mut *self.output;
+        let right = match output.get_mut(..room) {
             Some(out) if numbers.written == expected.len() => {
                 out.fill(MARK);
                 Numbers::from(call(module, out)) == numbers && has_expected(expected, out)
@@ -118,7 +118,7 @@ pub fn run_rewriter(rt: &(impl Input + Print + AllocGlobal)) -> io::Result<Tally
     let buffers = Buffers {
         module: &mut [0; MAX_WORDS],
         expected: &mut [0; MAX_OUTPUT],
-        lent: &mut [0; MAX_OUTPUT],
+        output: &mut [0; MAX_OUTPUT],
     };
     buffers.run_rewriter(rt)
 }
@@ -130,7 +130,7 @@ pub fn run_report(rt: &(impl Input + Print + AllocGlobal)) -> io::Result<Tally>
     let buffers = Buffers {
         module: &mut [0; MAX_WORDS],
         expected: &mut [0; MAX_OUTPUT],
-        lent: &mut [0; MAX_OUTPUT],
+        output: &mut [0; MAX_OUTPUT],
     };
     buffers.run_report(rt)
 }

@@ -68,18 +68,18 @@ fn lends_more_than_a_program(rt: HostRuntime) -> Result<(), Fail> {
     assert_eq!(rt; (tally.cases, tally.wrong), (1, 1));
     let tally = run_report(&reported)?;
     assert_eq!(rt; (tally.cases, tally.wrong), (1, 1));
-    let mut lent = [0; 12289];
+    let mut output = [0; 12289];
     let buffers = Buffers {
         module: &mut [0; 2],
         expected: &mut [0; 2],
-        lent: &mut lent,
+        output: &mut output,
     };
     let tally = buffers.run_rewriter(&rewritten)?;
     assert_eq!(rt; (tally.cases, tally.wrong), (1, 0));
     let buffers = Buffers {
         module: &mut [0; 2],
         expected: &mut [0; 2],
-        lent: &mut lent,
+        output: &mut output,
     };
     let tally = buffers.run_report(&reported)?;
     assert_eq!(rt; (tally.cases, tally.wrong), (1, 0));
